@@ -1,0 +1,16 @@
+//! The outside of the pipeline: what it reads from, writes to and finds files on, each a trait whose
+//! contract says what may fail and why, and objects in memory that keep these contracts.
+//!
+//! Each object counts its faults. A call answers `Failed` only where that count rose, and never of an
+//! object that is sure. In memory an object also tells its bytes, so that a contract can name them.
+#![tactic(auto)]
+
+mod gate;
+mod shelf;
+mod sink;
+mod source;
+
+pub use gate::{Gate, OpenGate};
+pub use shelf::Shelf;
+pub use sink::{PutFault, Sink};
+pub use source::{Failed, Source};

@@ -1,0 +1,39 @@
+//! What the pipeline writes to.
+ghost use Rattle.std.specs.Prelude.{◌≡◌, ◌≤◌, ℕ, List, Option, length, take, IsErrOf, OnOk, OnErr};
+
+/// Why bytes were not put, or a file was not opened, created or closed.
+#[derive(Clone, Copy, Debug, PartialEq, Eq)]
+pub enum PutFault {
+    /// The outside failed, and the object has counted it.
+    Failed,
+    /// Memory was refused.
+    NoMemory,
+}
+
+/// A stream of bytes to write to.
+pub trait Sink: Drop {
+    ghost use Rattle.qos_io.specs.declared.sink.PutFault.TheVariants.{Failed};
+    ghost use Rattle.qos_io.specs.Fault.{HasRisen};
+    ghost use Rattle.qos_io.specs.Bytes.{held_after};
+
+    /// The bytes that it holds, where the sink tells them.
+    ghost contents: { Self → Option (List ℕ) };
+
+    /// The name of the file that it writes, if a shelf created it.
+    ghost name: { Self → Option (List ℕ) };
+
+    /// How often a call has failed.
+    ghost faults: { Self → ℕ };
+
+    /// No call of this sink fails from now on, but for want of memory. Code cannot ask this.
+    ghost IsSure: { Self → Type 0 };
+
+    /// Adds the bytes at the end. A refusal adds the first few of them, or none.
+    fn put(&mut self, bytes: &[u8]) -> Result<(), PutFault>
+        ensures added { OnOk result (contents self.new ≡ held_after bytes.now (contents self.old)) }
+        ensures refused { OnErr result ((n : ℕ) × (n ≤ length bytes.now) × (contents self.new ≡ held_after (take n bytes.now) (contents self.old))) }
+        ensures failed { IsErrOf result PutFault.Failed → HasRisen (faults self.old) (faults self.new) }
+        ensures name { name self.new ≡ name self.old }
+        ensures never_falls { faults self.old ≤ faults self.new }
+        ensures sure { IsSure self.old → IsSure self.new × (IsErrOf result PutFault.Failed → ⊥) × (faults self.new ≡ faults self.old) };
+}
