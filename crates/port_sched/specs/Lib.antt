@@ -1,0 +1,3 @@
+pub mod PortState
+pub mod Dequeue
+pub mod Plain

@@ -1,0 +1,13 @@
+//! The scheduler of a port. At present a port has one queue of 64 packets behind one token bucket.
+//!
+//! It stands on `credit_book` for the bucket and on `circular_buffer` for the queue. It promises that
+//! each call is exactly one step of the port's definition: the same packets go out at the same times,
+//! and it holds the very parcels that it was given.
+#![tactic(auto)]
+
+mod plain;
+
+pub use plain::{OVERHEAD, PlainSched, QUEUE_SIZE};
+
+#[cfg(test)]
+mod tests;
