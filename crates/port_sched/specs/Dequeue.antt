@@ -52,11 +52,11 @@ module _ {T : Type 0} (packet : T → Pkt) where
   turn (suc visits) room s =
       if (room == 0) || (length s.queue == 0) then record { sends = []; state = s }
       else
-        let first = visit room s in
-        if length first.sends == 0 then first
-        else
-          let rest = turn visits (room - length first.sends) first.state in
-          record { sends = first.sends ++ rest.sends; state = rest.state }
+      let first = visit room s in
+      if length first.sends == 0 then first
+      else
+      let rest = turn visits (room - length first.sends) first.state in
+      record { sends = first.sends ++ rest.sends; state = rest.state }
 
   -- A dequeue at `now` sets port time to the later of itself and `now`, and then takes one turn.
   abbrev pub dequeue : ℕ → ℕ → PortState T → Dequeued T

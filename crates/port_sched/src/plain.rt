@@ -34,11 +34,11 @@ impl<T: Parcel> Model for PlainSched<T> {
     ghost Value = { PortState T };
 
     ghost view = { λ s. record {
-        shaper = record { size = s.bucket.size; per_period = s.bucket.per_period; period = s.bucket.period };
-        time = s.time;
-        ticked = s.ticked;
-        credits = s.bucket.credits;
-        queue = s.queue.items;
+      shaper = record { size = s.bucket.size; per_period = s.bucket.per_period; period = s.bucket.period };
+      time = s.time;
+      ticked = s.ticked;
+      credits = s.bucket.credits;
+      queue = s.queue.items;
     } };
 
     ghost invariant = { λ s. IsSound T.packet s.bucket s.time s.ticked s.queue };
