@@ -20,6 +20,10 @@ pub record PortState (T : Type 0) : Type 0 where
   -- what waits, the oldest first
   pub queue : List T
 
+-- how many packets the queue holds at most
+abbrev pub queue_size : ℕ
+queue_size = 64
+
 module _ {T : Type 0} where
   -- the start: no time has passed, the bucket is half full, nothing waits
   abbrev pub start_of : Shaper → PortState T
@@ -31,10 +35,6 @@ module _ {T : Type 0} where
     ticked = t;
     credits = after_periods s.shaper.size s.shaper.per_period (multiples s.shaper.period s.ticked t) s.credits;
   }
-
-  -- how many packets the queue holds at most
-  abbrev pub queue_size : ℕ
-  queue_size = 64
 
   -- a packet that arrives joins the back of the queue
   abbrev pub joined : T → PortState T → PortState T

@@ -1,5 +1,5 @@
 //! One queue behind one token bucket.
-ghost use Rattle.std.specs.Prelude.{◌≡◌, ◌≤◌, ◌<◌, ◌+◌, ◌*◌, ◌^◌, ◌++◌, ◌↔◌, ℕ, length, take, drop, max, IfOk, OnOk, IfErr, IsOk, slice_get, vec_len, vec_capacity};
+ghost use Rattle.std.specs.Prelude.{◌≡◌, ◌≤◌, ◌<◌, ◌+◌, ◌*◌, ◌/◌, ◌^◌, ◌++◌, ◌↔◌, ℕ, length, take, drop, max, IfOk, OnOk, IfErr, IsOk, slice_get, vec_len, vec_capacity};
 ghost use Rattle.std.specs.Bool.{OnTrue, OnFalse};
 ghost use Rattle.credit_book.specs.Bucket.{brought, after_periods, multiples};
 
@@ -137,7 +137,7 @@ impl<T: Parcel> PlainSched<T> {
         while left > 0 && self.queued() > 0 {
             let sent = self.visit(left, out);
             if sent == 0 {
-                break;
+                return room - left;
             }
             left -= sent;
         }

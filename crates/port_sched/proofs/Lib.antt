@@ -1,0 +1,5 @@
+pub mod Sends
+pub mod Fronts
+pub mod Visits
+pub mod Turns
+pub mod Stepped
