@@ -1,5 +1,5 @@
 -- Sending the front of a queue a packet at a time, and all at once.
-use Rattle.std.proofs.Common.{◌≡◌, ℕ, suc, ◌+◌, ◌-◌, List, [], ◌∷◌, ◌++◌, length, take, drop, sum_by, refl, sym, ap, ◌∙◌, arith, take-add}
+use Rattle.std.proofs.Common.{◌≡◌, ℕ, suc, ◌+◌, ◌-◌, List, [], ◌∷◌, ◌++◌, length, map, take, drop, sum_by, refl, sym, ap, ◌∙◌, arith, take-add}
 use Rattle.std.proofs.lemmas.List.{drop-drop}
 use Rattle.std.proofs.lemmas.List.Sums.{sum_by-append, sum_by-cons}
 use Rattle.qos_base.specs.declared.packet.Pkt.{Pkt}
@@ -11,6 +11,11 @@ module _ {T : Type 0} (packet : T → Pkt) where
   pub length-sends_from : (time : ℕ) (ts : List T) → length (sends_from packet time ts) ≡ length ts
   length-sends_from time [] = refl
   length-sends_from time (t ∷ ts) = ap suc (length-sends_from (time + cost_of (packet t)) ts)
+
+  -- the parcels that are sent
+  pub parcels-sends_from : (time : ℕ) (ts : List T) → map (λ (d : Departure T). d.parcel) (sends_from packet time ts) ≡ ts
+  parcels-sends_from time [] = refl
+  parcels-sends_from time (t ∷ ts) = ap (λ us. t ∷ us) (parcels-sends_from (time + cost_of (packet t)) ts)
 
   pub sends_from-append : (time : ℕ) (ts us : List T) → sends_from packet time (ts ++ us) ≡ sends_from packet time ts ++ sends_from packet (time + total_cost packet ts) us
   sends_from-append time [] us = ap (λ n. sends_from packet n us) (sym (omega arith))

@@ -1,5 +1,5 @@
 //! One queue behind one token bucket.
-ghost use Rattle.std.specs.Prelude.{◌≡◌, ◌≤◌, ◌<◌, ◌+◌, ◌*◌, ◌/◌, ◌^◌, ◌++◌, ◌↔◌, ℕ, length, take, drop, max, IfOk, OnOk, IfErr, IsOk, slice_get, vec_len, vec_capacity};
+ghost use Rattle.std.specs.Prelude.{◌≡◌, ◌≤◌, ◌<◌, ◌+◌, ◌*◌, ◌/◌, ◌^◌, ◌++◌, ◌↔◌, ℕ, length, map, take, drop, max, IfOk, OnOk, IfErr, IsOk, slice_get, vec_len, vec_capacity};
 ghost use Rattle.std.specs.Bool.{OnTrue, OnFalse};
 ghost use Rattle.credit_book.specs.Bucket.{brought, after_periods, multiples};
 
@@ -129,8 +129,12 @@ impl<T: Parcel> PlainSched<T> {
         ensures sends { out.new.items ≡ out.old.items ++ (dequeue T.packet now room self.old).sends }
         ensures count { result ≡ length (dequeue T.packet now room self.old).sends }
         ensures within { result ≤ room }
+        // What is sent was at the front of the queue, in its order, and the rest of it stays.
+        ensures order { map (λ d. d.parcel) out.new.items ++ self.new.queue ≡ map (λ d. d.parcel) out.old.items ++ self.old.queue }
+        // Each packet takes at least its overhead, and at most the longest packet's cost.
+        ensures no_sooner { max self.old.time now + 24 * result ≤ self.new.time }
+        ensures no_later { self.new.time ≤ max self.old.time now + 1546 * result }
         ensures capacity { vec_capacity out.new ≡ vec_capacity out.old }
-        ensures time { self.new.time ≤ max self.old.time now + 1546 * result }
     {
         self.move_to(now);
         let mut left = room;
@@ -167,8 +171,10 @@ impl<T: Parcel> PlainSched<T> {
         ensures sends { out.new.items ≡ out.old.items ++ (visit T.packet room self.old).sends }
         ensures count { result ≡ length (visit T.packet room self.old).sends }
         ensures within { result ≤ room }
+        ensures order { map (λ d. d.parcel) out.new.items ++ self.new.queue ≡ map (λ d. d.parcel) out.old.items ++ self.old.queue }
+        ensures no_sooner { self.old.time + 24 * result ≤ self.new.time }
+        ensures no_later { self.new.time ≤ self.old.time + 1546 * result }
         ensures capacity { vec_capacity out.new ≡ vec_capacity out.old }
-        ensures time { self.new.time ≤ self.old.time + 1546 * result }
     {
         self.step_bucket();
         let mut sent = 0;
@@ -191,7 +197,7 @@ impl<T: Parcel> PlainSched<T> {
         requires space { vec_len out.old < vec_capacity out.old }
         requires time { self.old.time ≤ 2 ^ 63 }
         ensures sent { OnTrue result ((self.new ≡ (sends_first T.packet 1 self.old).state) × (out.new.items ≡ out.old.items ++ (sends_first T.packet 1 self.old).sends)) }
-        ensures fits { OnTrue result ((0 < length self.old.queue) × (total_cost T.packet (take 1 self.old.queue) ≤ self.old.credits) × (total_cost T.packet (take 1 self.old.queue) ≤ 1546)) }
+        ensures fits { OnTrue result ((0 < length self.old.queue) × (total_cost T.packet (take 1 self.old.queue) ≤ self.old.credits) × (24 ≤ total_cost T.packet (take 1 self.old.queue)) × (total_cost T.packet (take 1 self.old.queue) ≤ 1546)) }
         ensures stays { OnFalse result ((self.new ≡ self.old) × (out.new.items ≡ out.old.items)) }
         ensures does_not_fit { OnFalse result (0 < length self.old.queue → self.old.credits < total_cost T.packet (take 1 self.old.queue)) }
         ensures capacity { vec_capacity out.new ≡ vec_capacity out.old }

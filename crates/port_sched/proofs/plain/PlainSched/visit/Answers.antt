@@ -1,6 +1,8 @@
-use Rattle.std.proofs.Common.{◌≡◌, ◌<◌, ◌≤◌, ◌+◌, ◌++◌, length, sym, ap, ◌∙◌, inl, inr, arith}
+use Rattle.std.proofs.Common.{◌≡◌, ◌<◌, ◌≤◌, ◌+◌, List, ◌++◌, length, map, sym, ap, ◌∙◌, inl, inr, arith}
+use Rattle.qos_base.specs.declared.packet.Departure.{Departure}
+use Rattle.port_sched.specs.PortState.{PortState}
 use Rattle.port_sched.specs.Dequeue.{Dequeued, visit}
-use Rattle.port_sched.proofs.Visits.{HasSent-more, visit-sent, length-sent, length-visit}
+use Rattle.port_sched.proofs.Visits.{HasSent-more, visit-sent, length-sent, length-visit, order-sent}
 use Rattle.port_sched.proofs.plain.PlainSched.visit.Goals as goal
 
 pub send_front-requires-clause-space : goal.send_front-requires-clause-space
@@ -11,7 +13,7 @@ send_front-requires-clause-space g c =
 
 pub loop-sent-preserved : goal.loop-sent-preserved
 loop-sent-preserved g c = record {
-  so_far = HasSent-more g.T.Parcel.packet c.step_bucket.new.self c.args.out.now.items c.args.room _ _ _ _ _ c.loop-sent.invariant.so_far c.loop-sent-test.true (c.if-send_front.ensures.sent.0) (c.if-send_front.ensures.sent.1) c.if-send_front.ensures.fits.0 c.if-send_front.ensures.fits.1 c.if-send_front.ensures.fits.2;
+  so_far = HasSent-more g.T.Parcel.packet c.step_bucket.new.self c.args.out.now.items c.args.room _ _ _ _ _ c.loop-sent.invariant.so_far c.loop-sent-test.true (c.if-send_front.ensures.sent.0) (c.if-send_front.ensures.sent.1) c.if-send_front.ensures.fits.0 c.if-send_front.ensures.fits.1 c.if-send_front.ensures.fits.2 c.if-send_front.ensures.fits.3;
   capacity = c.send_front.ensures.capacity ∙ c.loop-sent.invariant.capacity;
 }
 
@@ -42,3 +44,18 @@ returns-after-loop-sent-clause-sends g c =
 pub returns-after-loop-sent-clause-count : goal.returns-after-loop-sent-clause-count
 returns-after-loop-sent-clause-count g c =
     length-visit g.T.Parcel.packet _ _ _ c.args.self.now _ _ _ c.step_bucket.ensures c.loop-sent.invariant.so_far (inl c.loop-sent-test.false)
+
+abbrev parcels : {T : Type 0} → List (Departure T) → List T
+parcels out = map (λ d. d.parcel) out
+
+pub returns-else-send_front-clause-order : goal.returns-else-send_front-clause-order
+returns-else-send_front-clause-order g c =
+    ap (λ (s : PortState g.row.T.Denot). parcels c.send_front.new.out.items ++ s.queue) c.if-send_front.ensures.stays.0
+    ∙ ap (λ (out : List (Departure g.row.T.Denot)). parcels out ++ c.loop-sent.self.queue) c.if-send_front.ensures.stays.1
+    ∙ order-sent g.T.Parcel.packet _ _ _ _ _ _ c.loop-sent.invariant.so_far
+    ∙ ap (λ (s : PortState g.row.T.Denot). parcels c.args.out.now.items ++ s.queue) c.step_bucket.ensures
+
+pub returns-after-loop-sent-clause-order : goal.returns-after-loop-sent-clause-order
+returns-after-loop-sent-clause-order g c =
+    order-sent g.T.Parcel.packet _ _ _ _ _ _ c.loop-sent.invariant.so_far
+    ∙ ap (λ (s : PortState g.row.T.Denot). parcels c.args.out.now.items ++ s.queue) c.step_bucket.ensures
