@@ -131,6 +131,7 @@ impl<T: Parcel> PlainSched<T> {
         ensures within { result ≤ room }
         // What is sent was at the front of the queue, in its order, and the rest of it stays.
         ensures order { map (λ d. d.parcel) out.new.items ++ self.new.queue ≡ map (λ d. d.parcel) out.old.items ++ self.old.queue }
+        ensures shaper { self.new.shaper ≡ self.old.shaper }
         // Each packet takes at least its overhead, and at most the longest packet's cost.
         ensures no_sooner { max self.old.time now + 24 * result ≤ self.new.time }
         ensures no_later { self.new.time ≤ max self.old.time now + 1546 * result }
@@ -172,6 +173,7 @@ impl<T: Parcel> PlainSched<T> {
         ensures count { result ≡ length (visit T.packet room self.old).sends }
         ensures within { result ≤ room }
         ensures order { map (λ d. d.parcel) out.new.items ++ self.new.queue ≡ map (λ d. d.parcel) out.old.items ++ self.old.queue }
+        ensures shaper { self.new.shaper ≡ self.old.shaper }
         ensures no_sooner { self.old.time + 24 * result ≤ self.new.time }
         ensures no_later { self.new.time ≤ self.old.time + 1546 * result }
         ensures capacity { vec_capacity out.new ≡ vec_capacity out.old }

@@ -29,6 +29,7 @@ loop-left-preserved g c =
       grown = omega (arith, c.visit-sent.ensures.within);
       within = omega arith;
       order = c.visit-sent.ensures.order ∙ c.loop-left.invariant.order;
+      shaper = c.visit-sent.ensures.shaper ∙ c.loop-left.invariant.shaper;
       no_sooner = omega (arith, c.visit-sent.ensures.within);
       no_later = omega (arith, c.visit-sent.ensures.within);
       capacity = c.visit-sent.ensures.capacity ∙ c.loop-left.invariant.capacity;

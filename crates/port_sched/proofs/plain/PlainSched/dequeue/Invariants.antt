@@ -9,6 +9,7 @@ invariant-loop-left g l = record {
   grown : length l.out.items + l.left ≡ length l.initial.out.items + l.room;
   within : l.left ≤ l.room;
   order : map (λ (d : Departure g.row.T.Denot). d.parcel) l.out.items ++ l.self.queue ≡ map (λ (d : Departure g.row.T.Denot). d.parcel) l.initial.out.items ++ l.initial.self.queue;
+  shaper : l.self.shaper ≡ l.initial.self.shaper;
   no_sooner : l.initial.self.time + 24 * (l.room - l.left) ≤ l.self.time;
   no_later : l.self.time ≤ l.initial.self.time + 1546 * (l.room - l.left);
   capacity : vec_capacity l.out ≡ vec_capacity l.initial.out;

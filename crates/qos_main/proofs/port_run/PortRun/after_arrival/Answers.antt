@@ -1,0 +1,5 @@
+use Rattle.qos_main.proofs.Runs.{time-fits}
+use Rattle.qos_main.proofs.port_run.PortRun.after_arrival.Goals as goal
+
+pub after-requires : goal.after-requires
+after-requires c = rw c.time.ensures (time-fits _ _ _ _ _ _ _ c.self.invariant)

@@ -1,0 +1,5 @@
+use Rattle.qos_main.proofs.Runs.{time-fits}
+use Rattle.qos_main.proofs.port_run.PortRun.next.Goals as goal
+
+pub next-requires : goal.next-requires
+next-requires c = rw c.time.ensures (time-fits _ _ _ _ _ _ _ c.self.invariant)

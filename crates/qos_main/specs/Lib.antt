@@ -1,0 +1,4 @@
+pub mod Pacer
+pub mod Schedule
+pub mod Paced
+pub mod PortRun
