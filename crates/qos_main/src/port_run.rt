@@ -90,7 +90,11 @@ impl PortRun {
     fn enqueue(&mut self, packet: Pkt) -> Result<(), NoMemory>
         requires short { packet.wire ≤ 1522 }
         requires few { length (arrivals_of self.old.journal) < 2000000000 }
-        ensures { OnOk result (self.new ≡ record self.old { journal = self.old.journal ++ Arrive packet ∷ []; pacer = record self.old.pacer { went = (schedule_of self.old.plan.shaper (self.old.journal ++ Arrive packet ∷ [])).went } }) }
+        ensures ok { OnOk result (self.new ≡ record self.old {
+          journal = self.old.journal ++ Arrive packet ∷ [];
+          pacer = record self.old.pacer { went = (schedule_of self.old.plan.shaper (self.old.journal ++ Arrive packet ∷ [])).went };
+        }) }
+        ensures burst { self.old.plan.burst ≡ 32 }
     {
         self.journal.reserve(1)?;
         self.dropped += u64::from(self.sched.arrive(packet).is_err());
@@ -127,7 +131,8 @@ impl PortRun {
     fn aim(&mut self, to: u64)
         requires to { to ≤ 2 ^ 57 }
         requires there { self.old.pacer.aim ≤ self.old.pacer.clock }
-        ensures { self.new ≡ record self.old { pacer = aimed to self.old.pacer } }
+        ensures aimed { self.new ≡ record self.old { pacer = aimed to self.old.pacer } }
+        ensures quantum { self.old.pacer.quantum ≡ self.old.plan.quantum }
     {
         self.pacer.aim(to);
     }
@@ -137,7 +142,28 @@ impl PortRun {
         ensures moment { result ≡ next_in self.old.pacer (length (schedule self.old).port.queue) (schedule self.old).port.time }
         ensures clock { self.new ≡ record self.old { pacer = record self.old.pacer { clock = unwrap_or result (max self.old.pacer.clock self.old.pacer.aim) } } }
         ensures went { self.old.pacer.went ≡ (schedule self.old).went }
+        ensures burst { self.old.plan.burst ≡ 32 }
     {
         self.pacer.next(self.sched.queued(), self.sched.time())
+    }
+
+    // Advances the clock to a byte time, with the dequeues of the pacing rule on the way.
+    fn advance(&mut self, to: u64) -> Result<(), NoMemory>
+        requires to { to ≤ 2 ^ 57 }
+        requires there { self.old.pacer.aim ≤ self.old.pacer.clock }
+        requires clock { self.old.pacer.clock ≤ 2 ^ 57 }
+        requires ready { IsReady self.old }
+        ensures course { OnOk result (course_of self.new ≡ advance self.old.plan to (course_of self.old)) }
+        ensures arrivals { OnOk result (arrivals_of self.new.journal ≡ arrivals_of self.old.journal) }
+        ensures clock { OnOk result (self.new.pacer.clock ≡ max self.old.pacer.clock to) }
+        ensures there { OnOk result (self.new.pacer.aim ≤ self.new.pacer.clock) }
+        ensures ready { OnOk result (IsReady self.new) }
+        ensures plan { OnOk result (self.new.plan ≡ self.old.plan) }
+    {
+        self.aim(to);
+        while let Some(now) = self.next() {
+            self.dequeue(now)?;
+        }
+        Ok(())
     }
 }

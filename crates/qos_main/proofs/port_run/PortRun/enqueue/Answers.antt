@@ -31,8 +31,8 @@ invariant_of-self-2 c =
     let i = c.self.inside in
     subst (λ (js : List Entry). IsSound c.arrive.new.self i.pacer.went js i.sends.items (i.arrived + 1) (i.dropped + c.from.result) i.dequeues) (sym (pushed c)) (after c)
 
-pub returns : goal.returns
-returns c =
+pub returns-clause-ok : goal.returns-clause-ok
+returns-clause-ok c =
     let i = c.self.inside in
     rw (← c.self.view_is)
     (run_after c.arrive.new.self i.sched i.journal.items c.push_reserved.new.self.items i.pacer i.pacer i.pacer.went (Arrive c.args.packet) (arrive-shaper c.arrive.new.self i.sched c.args.packet c.arrive.result c.arrive.ensures.joined c.arrive.ensures.refused) (pushed c) refl (after c).went_is)
