@@ -1,3 +1,4 @@
 pub mod Schedules
 pub mod Runs
 pub mod Courses
+pub mod Advances

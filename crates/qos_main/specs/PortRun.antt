@@ -47,3 +47,9 @@ schedule r = schedule_of r.plan.shaper r.journal
 -- where a packet waits after a dequeue that sent something, port time is past the clock: an advance moves on with each dequeue
 abbrev pub IsReady : RunState → Type 0
 IsReady r = 0 < length (schedule r).port.queue → (schedule r).went ≡ true → r.pacer.clock < (schedule r).port.time
+
+-- between two calls: the clock has come to the aim, and an advance may begin
+pub record IsBetween (r : RunState) : Type 0 where
+  pub there : r.pacer.aim ≤ r.pacer.clock
+  pub clock : r.pacer.clock ≤ 2 ^ 57
+  pub ready : IsReady r

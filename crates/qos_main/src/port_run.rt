@@ -44,9 +44,10 @@ impl Model for PortRun {
 
 impl PortRun {
     ghost use Rattle.qos_main.specs.Pacer.{PacerState, aimed, next_in, after_at};
-    ghost use Rattle.qos_main.specs.Schedule.{Schedule, schedule_of, arrivals_of};
+    ghost use Rattle.qos_main.specs.Schedule.{Schedule, schedule_of, arrivals_of, dequeues_in};
     ghost use Rattle.qos_main.specs.Paced.{Course, advance, arrived, joined_at, stands};
-    ghost use Rattle.qos_main.specs.PortRun.{RunState, new_run, course_of, schedule, IsReady};
+    ghost use Rattle.qos_main.specs.PortRun.{RunState, new_run, course_of, schedule, IsReady, IsBetween, parcels};
+    ghost use Rattle.std.specs.List.Sorted.{IsPermutation};
 
     /// A port at its start, whose bucket has `size` and earns `credits` every `period`: bytes, bytes and
     /// byte times, each 1 to 2^40.
@@ -166,4 +167,87 @@ impl PortRun {
         }
         Ok(())
     }
+
+    /// A packet arrives at a byte time: the clock is advanced to it, the packet joins the queue or is turned
+    /// away, and a dequeue follows where port time is not past the clock.
+    ///
+    /// `at` is at most 2^57 byte times, the packet at most 1,522 bytes long on the line, and fewer than
+    /// 2,000,000,000 packets have arrived.
+    pub fn arrive(&mut self, at: u64, packet: Pkt) -> Result<(), NoMemory>
+        requires at { at ≤ 2 ^ 57 }
+        requires short { packet.wire ≤ 1522 }
+        requires few { length (arrivals_of self.old.journal) < 2000000000 }
+        requires between { IsBetween self.old }
+        ensures course { OnOk result (course_of self.new ≡ arrived self.old.plan at packet (course_of self.old)) }
+        ensures arrivals { OnOk result (arrivals_of self.new.journal ≡ arrivals_of self.old.journal ++ packet ∷ []) }
+        ensures clock { OnOk result (self.new.pacer.clock ≡ max self.old.pacer.clock at) }
+        ensures between { OnOk result (IsBetween self.new) }
+        ensures plan { OnOk result (self.new.plan ≡ self.old.plan) }
+    {
+        self.advance(at)?;
+        self.join(packet)
+    }
+
+    /// Advances the clock by so many byte times, with the dequeues of the pacing rule.
+    pub fn drain(&mut self, by: u64) -> Result<(), NoMemory>
+        requires by { by ≤ 2 ^ 55 }
+        requires clock { self.old.pacer.clock ≤ 2 ^ 55 }
+        requires between { IsBetween self.old }
+        ensures course { OnOk result (course_of self.new ≡ advance self.old.plan (self.old.pacer.clock + by) (course_of self.old)) }
+        ensures arrivals { OnOk result (arrivals_of self.new.journal ≡ arrivals_of self.old.journal) }
+        ensures plan { OnOk result (self.new.plan ≡ self.old.plan) }
+    {
+        let to = self.pacer.clock() + by;
+        self.advance(to)
+    }
+
+    /// Ends the run: its journal, what it sent, and its numbers.
+    pub fn finish(self) -> PortOutcome
+        ensures journal { result.journal.items ≡ self.journal }
+        ensures sends { result.sends.items ≡ (schedule self).sends }
+        ensures arrived { result.arrived ≡ length (arrivals_of self.journal) }
+        ensures left { result.left ≡ length (schedule self).port.queue }
+        ensures dropped { result.dropped ≡ length (schedule self).drops }
+        ensures dequeues { result.dequeues ≡ dequeues_in self.journal }
+        ensures time { result.time ≡ (schedule self).port.time }
+        ensures account { IsPermutation (arrivals_of self.journal) ((parcels (schedule self).sends ++ (schedule self).port.queue) ++ (schedule self).drops) }
+    {
+        let PortRun {
+            sched,
+            pacer: _,
+            journal,
+            sends,
+            arrived,
+            dropped,
+            dequeues,
+        } = self;
+        PortOutcome {
+            journal,
+            sends,
+            arrived,
+            left: sched.queued(),
+            dropped,
+            dequeues,
+            time: sched.time(),
+        }
+    }
+}
+
+/// What the run of a port comes to.
+#[derive(Drop)]
+pub struct PortOutcome {
+    /// Every arrival and dequeue, in order.
+    pub journal: Vec<Entry>,
+    /// Every packet that was sent, in order, with the byte time at which it goes out.
+    pub sends: Vec<Departure<Pkt>>,
+    /// How many packets arrived.
+    pub arrived: u64,
+    /// How many still wait.
+    pub left: u64,
+    /// How many were turned away.
+    pub dropped: u64,
+    /// How many dequeues were made.
+    pub dequeues: u64,
+    /// Port time, in byte times of the line.
+    pub time: u64,
 }
