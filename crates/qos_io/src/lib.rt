@@ -5,12 +5,17 @@
 //! object that is sure. In memory an object also tells its bytes, so that a contract can name them.
 #![tactic(auto)]
 
+mod calls;
 mod gate;
+mod mem_source;
 mod shelf;
 mod sink;
 mod source;
+mod whole_source;
 
 pub use gate::{Gate, OpenGate};
+pub use mem_source::MemSource;
 pub use shelf::Shelf;
 pub use sink::{PutFault, Sink};
 pub use source::{Failed, Source};
+pub use whole_source::WholeSource;
