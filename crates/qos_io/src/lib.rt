@@ -6,16 +6,21 @@
 #![tactic(auto)]
 
 mod calls;
+mod files;
 mod gate;
+mod mem_sink;
 mod mem_source;
 mod shelf;
 mod sink;
 mod source;
+mod whole_sink;
 mod whole_source;
 
 pub use gate::{Gate, OpenGate};
+pub use mem_sink::MemSink;
 pub use mem_source::MemSource;
 pub use shelf::Shelf;
 pub use sink::{PutFault, Sink};
 pub use source::{Failed, Source};
+pub use whole_sink::WholeSink;
 pub use whole_source::WholeSource;
