@@ -1,6 +1,7 @@
 //! Files by their names. The newest file of a name counts, so that to add one takes no memory where
 //! its place was made before.
-ghost use Rattle.std.specs.Prelude.{◌≡◌, Option, option_map, IfOk};
+ghost use Rattle.std.specs.Prelude.{◌≡◌, ◌≢◌, ℕ, List, Some, IfOk};
+ghost use Rattle.std.specs.Option.{option_copied};
 ghost use Rattle.std.specs.FinMap as map;
 
 use std::alloc::{AllocError, Global};
@@ -100,7 +101,9 @@ impl Files {
 
     /// The file of the place's name now holds these bytes. It takes no memory.
     pub(crate) fn put(&mut self, place: Place, bytes: Vec<u8>)
-        ensures { self.new ≡ map.insert self.old place bytes.items }
+        ensures put { self.new ≡ map.insert self.old place bytes.items }
+        ensures held { map.get self.new place ≡ Some bytes.items }
+        ensures others { (n : List ℕ) → n ≢ place → map.get self.new n ≡ map.get self.old n }
     {
         let Place { mut node } = place;
         node.bytes = bytes;
@@ -110,7 +113,7 @@ impl Files {
 
     /// What the file of this name holds, or `None` where there is no such file.
     pub(crate) fn get(&self, name: &str) -> Option<&[u8]>
-        ensures { option_map (λ bytes. bytes.now) result ≡ map.get self.now name.now }
+        ensures { option_copied result ≡ map.get self.now name.now }
     {
         let mut at = &self.newest;
         while let Chain::More(node) = at {

@@ -13,6 +13,7 @@ mod mem_source;
 mod shelf;
 mod sink;
 mod source;
+mod whole_shelf;
 mod whole_sink;
 mod whole_source;
 
@@ -22,5 +23,6 @@ pub use mem_source::MemSource;
 pub use shelf::Shelf;
 pub use sink::{PutFault, Sink};
 pub use source::{Failed, Source};
+pub use whole_shelf::WholeShelf;
 pub use whole_sink::WholeSink;
 pub use whole_source::WholeSource;
