@@ -8,6 +8,7 @@
 mod calls;
 mod files;
 mod gate;
+mod mem_shelf;
 mod mem_sink;
 mod mem_source;
 mod shelf;
@@ -18,6 +19,7 @@ mod whole_sink;
 mod whole_source;
 
 pub use gate::{Gate, OpenGate};
+pub use mem_shelf::MemShelf;
 pub use mem_sink::MemSink;
 pub use mem_source::MemSource;
 pub use shelf::Shelf;

@@ -29,8 +29,16 @@ impl MemSource {
         ensures left { result.left ≡ bytes.items }
         ensures calls { result.calls ≡ no_calls fails.items }
     {
+        MemSource::over(WholeSource::new(bytes), fails)
+    }
+
+    /// This source, of which the reads with the numbers in `fails` will fail.
+    pub(crate) fn over(source: WholeSource, fails: Vec<u32>) -> MemSource
+        ensures left { result.left ≡ source }
+        ensures calls { result.calls ≡ no_calls fails.items }
+    {
         MemSource {
-            source: WholeSource::new(bytes),
+            source,
             calls: CallCounter::new(fails),
         }
     }
