@@ -3,12 +3,10 @@ ghost use Rattle.std.specs.Prelude.{◌≡◌, ◌≢◌, ◌↔◌, ℕ, List, 
 ghost use Rattle.std.specs.Option.{option_copied};
 ghost use Rattle.std.specs.FinMap as map;
 
+use crate::{MemSink, MemSource, PutFault, Shelf, WholeShelf};
+use qos_base::NoMemory;
 use std::alloc::Global;
 use std::marker::Model;
-
-use qos_base::NoMemory;
-
-use crate::{MemSink, MemSource, PutFault, Shelf, WholeShelf};
 
 /// Files in memory. To open a name of no file fails and is counted. A contract sees it as the map from
 /// each name to what its file holds, and the count of faults.

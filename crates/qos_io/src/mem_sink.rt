@@ -1,11 +1,10 @@
 //! A sink in memory whose failures are planned.
 ghost use Rattle.std.specs.Prelude.{◌≡◌, ◌↔◌, ◌++◌, [], OnOk, OnErr, IsErrOf};
 
-use std::alloc::Global;
-use std::marker::Model;
-
 use crate::calls::CallCounter;
 use crate::{PutFault, Sink, WholeSink};
+use std::alloc::Global;
+use std::marker::Model;
 
 /// Bytes in memory to write to, of which some puts fail and are counted.
 #[derive(Drop)]

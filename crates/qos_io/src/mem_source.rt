@@ -1,10 +1,9 @@
 //! A source in memory whose failures are planned.
 ghost use Rattle.std.specs.Prelude.{◌≡◌, ◌↔◌, min, length, take, drop, ◌++◌, IfOk, OnOk, OnErr, IsErr};
 
-use std::marker::Model;
-
 use crate::calls::CallCounter;
 use crate::{Failed, Source, WholeSource};
+use std::marker::Model;
 
 /// Bytes in memory to read from, of which some reads fail and are counted.
 #[derive(Debug, Drop)]

@@ -1,9 +1,8 @@
 //! What the pipeline writes to.
 ghost use Rattle.std.specs.Prelude.{◌≡◌, ◌≤◌, ℕ, List, Option, length, take, IsErrOf, OnOk, OnErr};
 
-use std::alloc::AllocError;
-
 use qos_base::NoMemory;
+use std::alloc::AllocError;
 
 /// Why bytes were not put, or a file was not opened, created or closed.
 #[derive(Clone, Copy, Debug, PartialEq, Eq)]

@@ -3,13 +3,11 @@ ghost use Rattle.std.specs.Prelude.{◌≡◌, ◌≢◌, ℕ, List, [], OnOk, O
 ghost use Rattle.std.specs.Option.{option_copied};
 ghost use Rattle.std.specs.FinMap as map;
 
-use std::alloc::Global;
-use std::marker::Model;
-
-use qos_base::NoMemory;
-
 use crate::files::{Files, Place};
 use crate::{PutFault, Shelf, WholeSink, WholeSource};
+use qos_base::NoMemory;
+use std::alloc::Global;
+use std::marker::Model;
 
 /// Files in memory. Nothing fails, but for want of memory. A contract sees it as the map from each name
 /// to what its file holds.
@@ -85,7 +83,7 @@ impl Shelf for WholeShelf {
         ensures opened { IfOk result (λ source. source ≡ unwrap_or (map.get self.old name.now) []) }
         ensures unchanged { self.new ≡ self.old }
     {
-        let bytes = match self.files.get(name) {
+        let bytes = match self.file(name) {
             Some(bytes) => Vec::from_slice(self.alloc, bytes)?,
             None => Vec::new(self.alloc),
         };

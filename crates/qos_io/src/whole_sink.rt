@@ -1,11 +1,10 @@
 //! A sink in memory that never fails.
 ghost use Rattle.std.specs.Prelude.{◌≡◌, ◌++◌, [], OnOk, OnErr, IsOkUnless};
 
-use std::alloc::Global;
-use std::marker::Model;
-
 use crate::files::Place;
 use crate::{PutFault, Sink};
+use std::alloc::Global;
+use std::marker::Model;
 
 /// Bytes in memory to write to. It never fails, but for want of memory.
 #[derive(Drop)]

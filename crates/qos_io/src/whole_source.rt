@@ -1,9 +1,8 @@
 //! A source in memory that never fails.
 ghost use Rattle.std.specs.Prelude.{◌≡◌, min, length, take, drop, ◌++◌, IfOk, IsOk};
 
-use std::marker::Model;
-
 use crate::{Failed, Source};
+use std::marker::Model;
 
 /// Bytes in memory to read from. It never fails. A contract sees it as the bytes that are left.
 #[derive(Debug, Drop)]

@@ -1,5 +1,4 @@
 use Rattle.std.proofs.Common.{arith}
-use Rattle.std.proofs.lemmas.Grind.{common_steps}
 use Rattle.qos_io.proofs.FilesLemmas.{get-insert_same, get-insert_other}
 use Rattle.qos_io.proofs.files.Files.put.Goals as goal
 
