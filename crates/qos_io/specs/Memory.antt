@@ -32,18 +32,18 @@ abbrev pub after_failure : Calls → Calls
 after_failure c = record { fails = c.fails; made = one_more c.made; faults = one_more c.faults }
 
 -- a source: the bytes that are left to read, and its calls
-pub record Reading : Type 0 where
+pub record SourceState : Type 0 where
   pub left : List ℕ
   pub calls : Calls
 
 -- a sink: the bytes that it holds, the name of its file if a shelf created it, and its calls
-pub record Writing : Type 0 where
+pub record SinkState : Type 0 where
   pub held : List ℕ
   pub name : Option (List ℕ)
   pub calls : Calls
 
 -- a sink that never fails: the bytes that it holds, and the name of its file if a shelf created it
-pub record Page : Type 0 where
+pub record WholeSinkState : Type 0 where
   pub held : List ℕ
   pub name : Option (List ℕ)
 
@@ -56,10 +56,10 @@ abbrev pub files_code : Coded Files
 files_code = map.code (coded_list coded_ℕ) (coded_list coded_ℕ)
 
 -- a shelf: its files, and how many of its calls failed
-pub record Shelved : Type 0 where
+pub record ShelfState : Type 0 where
   pub files : Files
   pub faults : ℕ
 
 -- it is stored as the pair of the two
-abbrev pub shelved_code : Coded Shelved
-shelved_code = code_by (Files × ℕ) (coded× files_code coded_ℕ) (λ s. (s.files, s.faults)) (λ p. record { files = p.0; faults = p.1 }) (λ _. refl)
+abbrev pub shelf_state_code : Coded ShelfState
+shelf_state_code = code_by (Files × ℕ) (coded× files_code coded_ℕ) (λ s. (s.files, s.faults)) (λ p. record { files = p.0; faults = p.1 }) (λ _. refl)

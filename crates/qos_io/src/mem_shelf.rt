@@ -18,11 +18,11 @@ pub struct MemShelf {
 }
 
 impl Model for MemShelf {
-    ghost use Rattle.qos_io.specs.Memory.{Shelved, shelved_code};
+    ghost use Rattle.qos_io.specs.Memory.{ShelfState, shelf_state_code};
 
-    ghost Value = { Shelved };
+    ghost Value = { ShelfState };
 
-    ghost coded = { shelved_code };
+    ghost coded = { shelf_state_code };
 
     ghost view = { λ a. record { files = a.shelf; faults = a.faults } };
 }
@@ -39,7 +39,8 @@ impl MemShelf {
         }
     }
 
-    /// Makes a file of this name with these bytes, in place of any that was there.
+    /// Makes a file of this name with these bytes, in place of any that was there. The bytes that were there stay
+    /// in memory until the shelf goes. `NoMemory` where memory was refused for the name; nothing has changed then.
     pub fn put_file(&mut self, name: &str, bytes: Vec<u8>) -> Result<(), NoMemory>
         ensures put { OnOk result (self.new.files ≡ map.insert self.old.files name.now bytes.items) }
         ensures held { OnOk result (map.get self.new.files name.now ≡ Some bytes.items) }
@@ -79,6 +80,8 @@ impl Shelf for MemShelf {
 
     ghost IsSureToWrite = { λ _ _. ⊤ };
 
+    /// A source of a copy of the file's bytes. `Failed` exactly where there is no such file, and `NoMemory` where
+    /// memory was refused for the copy.
     fn open_in(&mut self, name: &str) -> Result<MemSource, PutFault>
         ensures absent { IsErrOf result PutFault.Failed ↔ (map.get self.old.files name.now ≡ None) }
         ensures opened { IfOk result (λ source. map.get self.old.files name.now ≡ Some source.left) }
@@ -96,6 +99,7 @@ impl Shelf for MemShelf {
         Ok(MemSource::over(source, Vec::new(self.alloc)))
     }
 
+    /// `NoMemory` where memory was refused; nothing has changed then.
     fn create_out(&mut self, name: &str) -> Result<MemSink, PutFault>
         ensures only_memory { IsOkUnless result PutFault.NoMemory }
         ensures empty { IfOk result (λ sink. sink ≡ record { held = []; name = Some name.now; calls = no_calls [] }) }
@@ -109,6 +113,7 @@ impl Shelf for MemShelf {
         Ok(MemSink::over(sink, Vec::new(self.alloc)))
     }
 
+    /// It takes no memory and never fails.
     fn close_out(&mut self, out: MemSink) -> Result<(), PutFault>
         requires { IsSome out.name }
         ensures succeeds { IsOk result }

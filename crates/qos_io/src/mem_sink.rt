@@ -14,9 +14,9 @@ pub struct MemSink {
 }
 
 impl Model for MemSink {
-    ghost use Rattle.qos_io.specs.Memory.{Writing};
+    ghost use Rattle.qos_io.specs.Memory.{SinkState};
 
-    ghost Value = { Writing };
+    ghost Value = { SinkState };
 
     ghost view = { λ a. record { held = a.sink.held; name = a.sink.name; calls = a.calls } };
 }
@@ -71,6 +71,8 @@ impl Sink for MemSink {
 
     ghost IsSure = { λ s. s.calls.fails ≡ [] };
 
+    /// `Failed` exactly where the number of this call is listed, and `NoMemory` where memory was refused. Either
+    /// way nothing was added.
     fn put(&mut self, bytes: &[u8]) -> Result<(), PutFault>
         ensures listed { IsErrOf result PutFault.Failed ↔ FailsNext self.old.calls }
         ensures added { OnOk result (self.new.held ≡ self.old.held ++ bytes.now) }

@@ -13,9 +13,9 @@ pub struct MemSource {
 }
 
 impl Model for MemSource {
-    ghost use Rattle.qos_io.specs.Memory.{Reading};
+    ghost use Rattle.qos_io.specs.Memory.{SourceState};
 
-    ghost Value = { Reading };
+    ghost Value = { SourceState };
 
     ghost view = { λ a. record { left = a.source; calls = a.calls } };
 }
@@ -54,6 +54,8 @@ impl Source for MemSource {
 
     ghost IsSure = { λ s. s.calls.fails ≡ [] };
 
+    /// Fails exactly where the number of this call is listed. Else it moves as many of the bytes that are left
+    /// as `buf` has room for.
     fn read(&mut self, buf: &mut [u8]) -> Result<usize, Failed>
         ensures listed { IsErr result ↔ FailsNext self.old.calls }
         ensures many { IfOk result (λ n. n ≡ min (length buf.old) (length self.old.left)) }

@@ -38,7 +38,8 @@ impl WholeShelf {
         }
     }
 
-    /// Makes a file of this name with these bytes, in place of any that was there.
+    /// Makes a file of this name with these bytes, in place of any that was there. The bytes that were there stay
+    /// in memory until the shelf goes. `NoMemory` where memory was refused for the name; nothing has changed then.
     pub fn put_file(&mut self, name: &str, bytes: Vec<u8>) -> Result<(), NoMemory>
         ensures put { OnOk result (self.new ≡ map.insert self.old name.now bytes.items) }
         ensures held { OnOk result (map.get self.new name.now ≡ Some bytes.items) }
@@ -77,7 +78,8 @@ impl Shelf for WholeShelf {
 
     ghost IsSureToWrite = { λ _ _. ⊤ };
 
-    /// A source of the file's bytes, or of none where there is no such file.
+    /// A source of a copy of the file's bytes, or of none where there is no such file. `NoMemory` where memory was
+    /// refused for the copy.
     fn open_in(&mut self, name: &str) -> Result<WholeSource, PutFault>
         ensures only_memory { IsOkUnless result PutFault.NoMemory }
         ensures opened { IfOk result (λ source. source ≡ unwrap_or (map.get self.old name.now) []) }
@@ -90,6 +92,7 @@ impl Shelf for WholeShelf {
         Ok(WholeSource::new(bytes))
     }
 
+    /// `NoMemory` where memory was refused; nothing has changed then.
     fn create_out(&mut self, name: &str) -> Result<WholeSink, PutFault>
         ensures only_memory { IsOkUnless result PutFault.NoMemory }
         ensures empty { IfOk result (λ sink. sink ≡ record { held = []; name = Some name.now }) }
@@ -104,6 +107,7 @@ impl Shelf for WholeShelf {
         Ok(WholeSink::at(self.alloc, out))
     }
 
+    /// It takes no memory and never fails.
     fn close_out(&mut self, out: WholeSink) -> Result<(), PutFault>
         requires { IsSome out.name }
         ensures succeeds { IsOk result }

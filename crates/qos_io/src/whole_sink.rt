@@ -14,9 +14,9 @@ pub struct WholeSink {
 }
 
 impl Model for WholeSink {
-    ghost use Rattle.qos_io.specs.Memory.{Page};
+    ghost use Rattle.qos_io.specs.Memory.{WholeSinkState};
 
-    ghost Value = { Page };
+    ghost Value = { WholeSinkState };
 
     ghost view = { λ a. record { held = a.held.items; name = a.place } };
 }
@@ -71,6 +71,7 @@ impl Sink for WholeSink {
 
     ghost IsSure = { λ _. ⊤ };
 
+    /// `NoMemory` where memory was refused, and nothing was added.
     fn put(&mut self, bytes: &[u8]) -> Result<(), PutFault>
         ensures only_memory { IsOkUnless result PutFault.NoMemory }
         ensures added { OnOk result (self.new.held ≡ self.old.held ++ bytes.now) }

@@ -39,6 +39,7 @@ impl Source for WholeSource {
 
     ghost IsSure = { λ _. ⊤ };
 
+    /// Moves as many of the bytes that are left as `buf` has room for.
     fn read(&mut self, buf: &mut [u8]) -> Result<usize, Failed>
         ensures succeeds { IsOk result }
         ensures many { IfOk result (λ n. n ≡ min (length buf.old) (length self.old)) }
