@@ -1,2 +1,4 @@
 pub mod Fault
 pub mod Bytes
+pub mod Memory
+pub mod Chain

@@ -53,6 +53,7 @@ pub trait Shelf {
         ensures same_to_write { (n : List ℕ) → IsSureToWrite self.new n ↔ IsSureToWrite self.old n };
 
     /// Ends the writing of a sink. The file of its name then holds what was put; after a refusal, a prefix of it.
+    /// A sink may come from another shelf. Its name then gets a file here, and may so become sure to read.
     fn close_out(&mut self, out: Self::Out) -> Result<(), PutFault>
         requires { IsSome (Self.Out.name out) }
         ensures held { Tells self.old → OnOk result ((n held : List ℕ) → Self.Out.name out ≡ Some n → Self.Out.contents out ≡ Some held → file self.new n ≡ Some held) }
@@ -62,6 +63,7 @@ pub trait Shelf {
         ensures sure { Self.Out.IsSure out → IsErrOf result PutFault.Failed → ⊥ }
         ensures tells { Tells self.new ↔ Tells self.old }
         ensures never_falls { faults self.old ≤ faults self.new }
-        ensures same_to_read { (n : List ℕ) → IsSureToRead self.new n ↔ IsSureToRead self.old n }
+        ensures same_to_read { (n : List ℕ) → Self.Out.name out ≢ Some n → IsSureToRead self.new n ↔ IsSureToRead self.old n }
+        ensures stays_to_read { (n : List ℕ) → IsSureToRead self.old n → IsSureToRead self.new n }
         ensures same_to_write { (n : List ℕ) → IsSureToWrite self.new n ↔ IsSureToWrite self.old n };
 }

@@ -1,6 +1,9 @@
 //! What the pipeline writes to.
 ghost use Rattle.std.specs.Prelude.{◌≡◌, ◌≤◌, ℕ, List, Option, length, take, IsErrOf, OnOk, OnErr};
 
+use qos_base::NoMemory;
+use std::alloc::AllocError;
+
 /// Why bytes were not put, or a file was not opened, created or closed.
 #[derive(Clone, Copy, Debug, PartialEq, Eq)]
 pub enum PutFault {
@@ -8,6 +11,28 @@ pub enum PutFault {
     Failed,
     /// Memory was refused.
     NoMemory,
+}
+
+impl From<NoMemory> for PutFault {
+    ghost use Rattle.std.specs.Prelude.{◌≡◌};
+    ghost use Rattle.qos_io.specs.declared.sink.PutFault.TheVariants.{NoMemory};
+
+    ghost from_gives = { λ _ fault. fault ≡ NoMemory };
+
+    fn from(_: NoMemory) -> PutFault {
+        PutFault::NoMemory
+    }
+}
+
+impl From<AllocError> for PutFault {
+    ghost use Rattle.std.specs.Prelude.{◌≡◌};
+    ghost use Rattle.qos_io.specs.declared.sink.PutFault.TheVariants.{NoMemory};
+
+    ghost from_gives = { λ _ fault. fault ≡ NoMemory };
+
+    fn from(_: AllocError) -> PutFault {
+        PutFault::NoMemory
+    }
 }
 
 /// A stream of bytes to write to.
