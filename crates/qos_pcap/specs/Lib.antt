@@ -1,0 +1,4 @@
+pub mod Format
+pub mod Reads
+pub mod Given
+pub mod Written
