@@ -43,8 +43,8 @@ pub data CaptureEnd : Type 0 where
 abbrev header_in : ByteOrder → List ℕ → ℕ → Result Form CaptureEnd
 header_in order bytes unit =
     if number_in order 2 (drop 4 bytes) == 2 then
-      if number_in order 4 (drop 20 bytes) % 65536 == 1 then Ok (record { order = order; unit = unit })
-      else Err bad_link
+    if number_in order 4 (drop 20 bytes) % 65536 == 1 then Ok (record { order = order; unit = unit })
+    else Err bad_link
     else Err bad_version
 
 -- the form that the first 24 bytes tell, or the first fault of them that applies

@@ -1,4 +1,6 @@
+pub mod Fill
 pub mod Format
-pub mod Reads
 pub mod Given
+pub mod Heads
+pub mod Reads
 pub mod Written

@@ -1,5 +1,5 @@
 -- The records and the end of a capture's bytes.
-use Rattle.std.specs.Prelude.{◌≡◌, ℕ, zero, suc, ◌+◌, nat_lt, if◌then◌else◌, List, [], ◌∷◌, length, drop, Option, None, Some, Ok}
+use Rattle.std.specs.Prelude.{◌≡◌, ℕ, zero, suc, ◌+◌, ◌-◌, nat_lt, if◌then◌else◌, List, [], ◌∷◌, length, drop, Option, None, Some, Ok}
 use Rattle.std.specs.Result.{MatchResult}
 use Rattle.qos_pcap.specs.Format.{Form, CaptureEnd, whole, cut_record, huge_record, too_many, Record, cap_in, record_in, header_of, little_nanoseconds}
 
@@ -24,7 +24,7 @@ ReadsFrom form at limit bytes (r ∷ rs) end =
 abbrev pub Reads : List ℕ → ℕ → List Record → CaptureEnd → Type 0
 Reads bytes limit records end =
     MatchResult (header_of bytes) (λ form. ReadsFrom form 24 limit (drop 24 bytes) records end)
-      (λ fault. (records ≡ []) × (end ≡ fault))
+    (λ fault. (records ≡ []) × (end ≡ fault))
 
 -- the bytes are little-endian, with nanoseconds, and a header without fault
 abbrev pub IsLittleNanoseconds : List ℕ → Type 0

@@ -6,11 +6,15 @@
 
 mod capture;
 mod fault;
+mod fields;
+mod fill;
 mod head;
 pub mod laws;
+mod opening;
 mod write;
 
-pub use capture::{Capture, open_capture};
+pub use capture::Capture;
 pub use fault::{PcapFault, Stop};
 pub use head::Head;
+pub use opening::open_capture;
 pub use write::{put_header, put_record};

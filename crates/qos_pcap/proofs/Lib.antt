@@ -1,0 +1,4 @@
+pub mod Filling
+pub mod Giving
+pub mod OneWay
+pub mod Putting
