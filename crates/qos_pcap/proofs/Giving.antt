@@ -1,9 +1,9 @@
 -- What a capture gives, from what was read of its source.
-use Rattle.std.proofs.Common.{◌≡◌, ◌≢◌, ◌⊎◌, ◌<◌, ◌≤◌, ℕ, zero, suc, ◌+◌, ◌-◌, ◌*◌, max, min, Bool, true, false, nat_lt, if◌then◌else◌, List, [], ◌∷◌, ◌++◌, length, take, drop, Option, Some, None, refl, sym, ap, ◌∙◌, subst, inl, inr, arith, rules, tests, sub-one}
+use Rattle.std.proofs.Common.{◌≡◌, ◌≢◌, ◌<◌, ◌≤◌, ℕ, zero, suc, ◌+◌, ◌-◌, ◌*◌, max, true, false, nat_lt, if◌then◌else◌, List, [], ◌∷◌, length, take, drop, Option, Some, None, refl, sym, ap, ◌∙◌, subst, inl, inr, arith}
 use Rattle.std.specs.Option.{MatchOption}
 use Rattle.std.proofs.lemmas.Bool.{cases_lt}
 use Rattle.std.proofs.lemmas.Bool.Decides.{nat_tests}
-use Rattle.std.proofs.lemmas.List.{append-nil, drop-drop, drop-take, drop_all, length-drop, length-take-le}
+use Rattle.std.proofs.lemmas.List.{append-nil, drop-drop, drop-take, drop_all, length-drop}
 use Rattle.byteorder.specs.Endian.{little_number}
 use Rattle.byteorder.specs.Numbers.{little_from-take}
 use Rattle.qos_pcap.specs.declared.capture.Place.{Place}
@@ -98,7 +98,7 @@ end_at-cut at left bytes more head fits short =
     end_at-head at left bytes more head fits ∙ rw test refl
 
 -- its body is whole
-end_at-whole : (at left : ℕ) (bytes : List ℕ) → 0 < left → 16 ≤ length bytes → cap_in little_nanoseconds bytes ≤ 262144 → 16 + cap_in little_nanoseconds bytes ≤ length bytes
+pub end_at-whole : (at left : ℕ) (bytes : List ℕ) → 0 < left → 16 ≤ length bytes → cap_in little_nanoseconds bytes ≤ 262144 → 16 + cap_in little_nanoseconds bytes ≤ length bytes
     → end_at little_nanoseconds at left bytes ≡ None
 end_at-whole at left bytes more head fits long =
     let test : nat_lt (length bytes) (16 + cap_in little_nanoseconds bytes) ≡ false = grind (arith, nat_tests) in
@@ -125,7 +125,7 @@ IsHeadIn-front bytes head is =
 record_in-head : (bytes : List ℕ) (head : Head) → IsHeadIn bytes head → record_in little_nanoseconds bytes ≡ recorded head (take head.cap (drop 16 bytes))
 record_in-head bytes head is = rw (is.stamp, is.wire, is.cap) refl
 
-ReadsFrom-same : (at at' left left' : ℕ) (bytes bytes' : List ℕ) (records : List Record) (end : CaptureEnd) → at ≡ at' → left ≡ left' → bytes ≡ bytes'
+pub ReadsFrom-same : (at at' left left' : ℕ) (bytes bytes' : List ℕ) (records : List Record) (end : CaptureEnd) → at ≡ at' → left ≡ left' → bytes ≡ bytes'
     → ReadsFrom little_nanoseconds at left bytes records end → ReadsFrom little_nanoseconds at' left' bytes' records end
 ReadsFrom-same at at' left left' bytes bytes' records end same_at same_left same_bytes reads =
     subst (λ (x : ℕ). ReadsFrom little_nanoseconds x left' bytes' records end) same_at

@@ -1,5 +1,5 @@
 -- A text and a limit have exactly one list of records and one end.
-use Rattle.std.proofs.Common.{◌≡◌, ◌⊎◌, ℕ, zero, suc, ◌+◌, ◌-◌, List, [], ◌∷◌, length, drop, Option, Some, None, Result, Ok, Err, refl, sym, ap, ◌∙◌, subst, inl, inr, arith, sub-one}
+use Rattle.std.proofs.Common.{◌≡◌, ◌⊎◌, ℕ, zero, suc, ◌+◌, ◌-◌, List, [], ◌∷◌, drop, Option, Some, None, Result, Ok, Err, refl, sym, ◌∙◌, subst, inl, inr, sub-one}
 use Rattle.qos_pcap.specs.Format.{Form, CaptureEnd, whole, too_many, Record, record_in, header_of}
 use Rattle.qos_pcap.specs.Reads.{end_at, ReadsFrom, Reads, ReadsOneWay}
 

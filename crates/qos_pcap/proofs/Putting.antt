@@ -1,5 +1,5 @@
 -- Two puts, one after the other, against one put of both texts.
-use Rattle.std.proofs.Common.{◌≡◌, ◌≤◌, ℕ, ◌+◌, List, ◌++◌, length, take, Option, Some, None, Result, Ok, Err, OnErr, OnOk, refl, sym, ap, ◌∙◌, arith, zero-add, suc-add, length-append, [], ◌∷◌}
+use Rattle.std.proofs.Common.{◌≡◌, ◌≤◌, ℕ, ◌+◌, List, ◌++◌, length, take, Option, Some, None, Result, Ok, Err, OnErr, refl, ap, ◌∙◌, arith, zero-add, suc-add, length-append, [], ◌∷◌}
 use Rattle.std.proofs.lemmas.List.{append_assoc, take-append-le}
 use Rattle.qos_io.specs.Bytes.{held_after}
 

@@ -18,3 +18,6 @@ pub use fault::{PcapFault, Stop};
 pub use head::Head;
 pub use opening::open_capture;
 pub use write::{put_header, put_record};
+
+#[cfg(test)]
+mod tests;
