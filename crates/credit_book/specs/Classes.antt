@@ -1,5 +1,5 @@
 -- The credits of the thirteen traffic classes: whole at each renewal, and what is taken from them.
-use Rattle.std.specs.Prelude.{◌≡◌, ℕ, ◌+◌, ◌-◌, ◌^◌, ◌≤◌, ◌<◌, Bool, nat_le, if◌then◌else◌, List, length, slice_index, slice_set, EachIndex}
+use Rattle.std.specs.Prelude.{◌≡◌, ℕ, ◌+◌, ◌-◌, ◌^◌, ◌≤◌, ◌<◌, nat_le, if◌then◌else◌, List, length, slice_index, slice_set}
 
 -- the classes' credits in bytes, by number of class; period and due time in byte times of the line
 pub record TrafficClasses : Type 0 where

@@ -13,3 +13,6 @@ mod watermark;
 pub use bucket::Bucket;
 pub use classes::ClassCredits;
 pub use watermark::Watermark;
+
+#[cfg(test)]
+mod tests;
