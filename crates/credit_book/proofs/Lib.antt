@@ -1,2 +1,3 @@
-pub mod Periods
 pub mod BucketLemmas
+pub mod LawLemmas
+pub mod Periods

@@ -1,1 +1,4 @@
 pub mod Bucket
+pub mod Classes
+pub mod Laws
+pub mod Watermark

@@ -1,6 +1,6 @@
 //! Token buckets.
 ghost use Rattle.std.specs.Prelude.{◌≡◌, ◌+◌, ◌*◌, ◌/◌, ◌^◌, ◌≤◌, ◌↔◌, IsTrue};
-ghost use Rattle.credit_book.specs.Bucket.{TokenBucket, new_bucket, brought, multiples, after_periods, paid};
+ghost use Rattle.credit_book.specs.Bucket.{TokenBucket, IsTokenBucket, new_bucket, brought, multiples, after_periods, paid};
 
 use qos_base::Steps;
 use std::marker::Model;
@@ -77,10 +77,12 @@ impl Bucket {
         }
     }
 
-    /// The credits that are there, in bytes; at most the size.
+    /// The credits that are there, in bytes; at most the size. The bucket's time is a multiple of its
+    /// period.
     pub fn credits(&self) -> u64
         ensures exact { result ≡ self.now.credits }
         ensures within { result ≤ self.now.size }
+        ensures sound { IsTokenBucket self.now }
     {
         self.credits
     }

@@ -6,5 +6,13 @@
 #![tactic(auto)]
 
 mod bucket;
+mod classes;
+pub mod laws;
+mod watermark;
 
 pub use bucket::Bucket;
+pub use classes::ClassCredits;
+pub use watermark::Watermark;
+
+#[cfg(test)]
+mod tests;
