@@ -1,4 +1,5 @@
--- The tokens of the queues of a round robin, and what a pick, a send and an empty queue make of them.
+-- The tokens of the queues of a round robin, and what a pick, a send and an empty queue make of them. The idea is
+-- that of the weighted round robin in the DPDK Programmer's Guide, chapter Quality of Service.
 use Rattle.std.specs.Prelude.{◌≡◌, ℕ, ◌+◌, ◌-◌, ◌*◌, ◌^◌, ◌<◌, ◌≤◌, Bool, ◌&&◌, ◌||◌, not, nat_le, if◌then◌else◌, List, length, map, slice_get, slice_index, slice_set, Some, true}
 use Rattle.std.specs.List.{list_all, zip, position_or_len}
 use Rattle.wrr_pick.specs.declared.wrr.TheConstants.{MAX_COST, QUEUES}
@@ -8,7 +9,7 @@ pub record RoundRobin : Type 0 where
   pub factors : List ℕ
   pub tokens : List ℕ
 
--- a queue, as its tokens and whether it is filled, is filled, and no filled one has fewer tokens
+-- a queue, seen as its tokens and whether it is filled, is filled, and no filled queue has fewer tokens
 abbrev pub has_fewest : List (ℕ × Bool) → ℕ × Bool → Bool
 has_fewest queues q = q.1 && list_all (λ other. not other.1 || nat_le q.0 other.0) queues
 
@@ -16,13 +17,13 @@ has_fewest queues q = q.1 && list_all (λ other. not other.1 || nat_le q.0 other
 abbrev pub picked_queue : List ℕ → List Bool → ℕ
 picked_queue tokens filled = position_or_len (has_fewest (zip tokens filled)) (zip tokens filled)
 
--- a queue that is filled, and that no filled queue has fewer tokens than; each filled one below it has more
+-- the queue is filled, no filled queue has fewer tokens, and each filled queue of a lower number has more
 pub record IsPicked (tokens : List ℕ) (filled : List Bool) (queue : ℕ) : Type 0 where
   pub filled_itself : slice_get filled queue ≡ Some true
   pub least : (k : ℕ) → slice_get filled k ≡ Some true → slice_index tokens queue ≤ slice_index tokens k
   pub first : (k : ℕ) → k < queue → slice_get filled k ≡ Some true → slice_index tokens queue < slice_index tokens k
 
--- the tokens where each filled queue has so many fewer
+-- the tokens, so many fewer at each filled queue
 abbrev pub lowered : List ℕ → List Bool → ℕ → List ℕ
 lowered tokens filled by = map (λ q. if q.1 then q.0 - by else q.0) (zip tokens filled)
 

@@ -10,13 +10,14 @@ use std::marker::Model;
 /// The best effort queues of a pipe.
 pub const QUEUES: usize = 4;
 
-/// The greatest cost of a packet, in byte times of the line.
+/// The greatest cost of a packet, in byte times of the line: 262,144 bytes and an overhead of 255.
 pub const MAX_COST: u64 = 262_399;
 
 /// A weighted round robin over four queues, 0 to 3.
 ///
-/// A queue pays for what it sends in tokens, so many a byte as its factor says, and the filled queue with
-/// the fewest tokens is next.
+/// A queue pays for what it sends in tokens, as many for each byte as its factor says, and the filled queue
+/// with the fewest tokens is next. The factors are those of the least common multiple of the weights, so
+/// that all queues pay the same for shares in proportion to their weights. No sum of tokens wraps.
 #[derive(Clone, Copy, Debug, PartialEq, Eq)]
 pub struct Wrr {
     factors: [u64; QUEUES],
@@ -37,8 +38,8 @@ impl Model for Wrr {
 }
 
 impl Wrr {
-    /// A round robin by these weights, in which no queue has tokens. A queue of weight 2 may send twice as
-    /// much as one of weight 1.
+    /// A round robin by these weights, 1 to 255, in which no queue has tokens. A queue of weight 2 may send
+    /// twice as much as one of weight 1.
     pub fn new(weights: [u8; QUEUES]) -> Wrr
         requires { All (λ w. 1 ≤ w) weights }
         ensures factors { result.factors ≡ factors_of weights }
@@ -56,7 +57,8 @@ impl Wrr {
         }
     }
 
-    /// The factor of each queue: the tokens that a byte time of it costs.
+    /// The factor of each queue, which is what it pays in tokens for a byte time of the line: the least
+    /// common multiple of the weights, divided by its weight.
     pub fn factors(&self) -> [u64; QUEUES]
         ensures value { result ≡ self.now.factors }
         ensures within { IsWithin self.now }
@@ -65,7 +67,8 @@ impl Wrr {
     }
 
     /// Picks the filled queue with the fewest tokens, the lower number on a tie, and takes that number of
-    /// tokens from every filled queue. `filled` says of each queue whether it has a packet.
+    /// tokens from every filled queue, whether the picked one then sends or not. `filled` says of each queue
+    /// whether it has a packet. The picked queue is left without tokens.
     pub fn pick(&mut self, filled: [bool; QUEUES]) -> usize
         requires { Contains filled true }
         ensures queue { result ≡ picked_queue self.old.tokens filled }
@@ -82,7 +85,8 @@ impl Wrr {
         queue
     }
 
-    /// Charges a queue that was picked for a packet that it sent, of this cost in byte times of the line.
+    /// Charges a queue for a packet that it sent, of this cost in byte times of the line. The queue has no
+    /// tokens before, as `pick` leaves the queue that it answers.
     pub fn charge(&mut self, queue: usize, cost: u64)
         requires queue { queue < QUEUES }
         requires ready { slice_index self.old.tokens queue ≡ 0 }
@@ -93,7 +97,7 @@ impl Wrr {
         self.tokens[queue] += cost * self.factors[queue];
     }
 
-    /// Notes that a queue is empty. It then has no tokens.
+    /// Notes that a queue became empty. It then has no tokens.
     pub fn emptied(&mut self, queue: usize)
         requires { queue < QUEUES }
         ensures tokens { self.new.tokens ≡ tokens_once_empty self.old.tokens queue }
