@@ -1,0 +1,2 @@
+pub mod Dscp
+pub mod Entry
