@@ -1,3 +1,4 @@
+pub mod Bodies
 pub mod Pacer
 pub mod Schedule
 pub mod Paced
