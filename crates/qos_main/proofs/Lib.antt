@@ -1,3 +1,4 @@
+pub mod Blocks
 pub mod Schedules
 pub mod Runs
 pub mod Courses
