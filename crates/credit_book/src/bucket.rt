@@ -60,7 +60,8 @@ impl Bucket {
         requires not_past { self.old.time ≤ time }
         requires time { time ≤ 2 ^ 63 }
         ensures exact { self.new ≡ brought time self.old }
-        ensures stepwise { self.new.credits ≡ after_periods self.old.size self.old.per_period (multiples self.old.period self.old.time time) self.old.credits }
+        ensures stepwise { let periods = multiples self.old.period self.old.time time in
+            self.new.credits ≡ after_periods self.old.size self.old.per_period periods self.old.credits }
         ensures time { self.new.time ≡ self.old.period * (time / self.old.period) }
         ensures not_ahead { self.new.time ≤ time }
         ensures step { steps.new ≡ steps.old + 1 }
