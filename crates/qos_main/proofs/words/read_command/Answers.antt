@@ -19,6 +19,6 @@ pub returns-clause-exact : goal.returns-clause-exact
 returns-clause-exact c =
     let words = seven c.args.words.now _ _ _ _ _ _ _ (omega arith) c.index-words-0.is c.index-words-1.is c.index-words-2.is c.index-words-3.is c.index-words-4.is c.index-words-5.is c.index-words-6.is in
     let texts : map string_bytes c.args.words.now ≡ c.as_str-word.result.now ∷ c.as_str-input.result.now ∷ c.as_str-output.result.now ∷ c.as_str.result.now ∷ c.as_str-2.result.now ∷ c.as_str-3.result.now ∷ c.as_str-4.result.now ∷ [] =
-        ap (map string_bytes) words ∙ cc in
+    ap (map string_bytes) words ∙ cc in
     let begins : begins_run c.as_str-word.result.now c.as_str-input.result.now c.as_str-output.result.now ≡ true = search rules in
     rw (ap command_of texts ∙ begun c.as_str-word.result.now c.as_str-input.result.now c.as_str-output.result.now c.as_str.result.now c.as_str-2.result.now c.as_str-3.result.now c.as_str-4.result.now begins) c.with_numbers.ensures.exact
