@@ -1,5 +1,5 @@
 -- What `parse` reads, in the words of `specs/Words.antt`.
-use Rattle.std.proofs.Common.{◌≡◌, ℕ, ◌<◌, ◌≤◌, ◌^◌, true, List, length, Option, None, Some, Result, Ok, Err, ◌⊎◌, inl, inr, ⊎_elim, arith, rules}
+use Rattle.std.proofs.Common.{◌≡◌, ℕ, ◌<◌, ◌≤◌, ◌^◌, true, List, length, None, Some, Result, Ok, Err, ◌⊎◌, ⊎_elim, arith, rules}
 use Rattle.std.specs.List.{list_all}
 use Rattle.std.specs.Char.{is_ascii_digit}
 use Rattle.std.specs.Result.{OkIff}

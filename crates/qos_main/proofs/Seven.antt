@@ -6,6 +6,7 @@ use Rattle.qos_main.specs.Words.{begins_run, command_with, line_of, bucket_numbe
 
 -- words that are not seven ask for no command
 pub other_count : {X : Type 0} (text : X → List ℕ) (xs : List X) → length xs ≢ 7 → command_of (map text xs) ≡ None
+unfolding command_of
 other_count text (x0 ∷ x1 ∷ x2 ∷ x3 ∷ x4 ∷ x5 ∷ x6 ∷ []) ne = absurd (ne refl)
 other_count text _ ne = refl
 
@@ -16,10 +17,12 @@ seven _ a b c d e f g n ea eb ec ed ee ef eg = absurd (omega arith)
 
 -- seven words that begin a run ask for what their numbers say
 pub begun : (word input output line size credits period : List ℕ) → begins_run word input output ≡ true → command_of (word ∷ input ∷ output ∷ line ∷ size ∷ credits ∷ period ∷ []) ≡ command_with input output (line_of line) (bucket_number_of size) (bucket_number_of credits) (bucket_number_of period)
+unfolding command_of
 begun word input output line size credits period h = rw h refl
 
 -- words that do not begin a run ask for no command
 pub not_begun : {X : Type 0} (text : X → List ℕ) (xs : List X) (a b c : X) → a ≡ get_or xs 0 a → b ≡ get_or xs 1 b → c ≡ get_or xs 2 c → begins_run (text a) (text b) (text c) ≡ false → command_of (map text xs) ≡ None
+unfolding command_of
 not_begun text (x0 ∷ x1 ∷ x2 ∷ x3 ∷ x4 ∷ x5 ∷ x6 ∷ []) a b c ea eb ec h =
     let e0 : a ≡ x0 = ea in
     let e1 : b ≡ x1 = eb in

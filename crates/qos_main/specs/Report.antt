@@ -18,8 +18,8 @@ TakesPrefix text before after = (n : ℕ) × (n ≤ length text) × (after ≡ h
 -- How the report of a status ended, by what its sink held and counted before and after, and the status that the program ends with.
 pub data Reports (status : ℕ) (before after : Option (List ℕ)) (faults_before faults_after : ℕ) (answer : ℕ) : Type 0 where
   -- the sink took it whole, and the status stays
-  Told : after ≡ held_after (report_text status) before → answer ≡ status → Reports status before after faults_before faults_after answer
+  told : after ≡ held_after (report_text status) before → answer ≡ status → Reports status before after faults_before faults_after answer
   -- the sink failed and counted it
-  Failed : TakesPrefix (report_text status) before after → HasRisen faults_before faults_after → answer ≡ status_after_fault status → Reports status before after faults_before faults_after answer
+  failed : TakesPrefix (report_text status) before after → HasRisen faults_before faults_after → answer ≡ status_after_fault status → Reports status before after faults_before faults_after answer
   -- the sink was refused memory: status 7
-  NoMemory : TakesPrefix (report_text status) before after → answer ≡ 7 → Reports status before after faults_before faults_after answer
+  out_of_memory : TakesPrefix (report_text status) before after → answer ≡ 7 → Reports status before after faults_before faults_after answer

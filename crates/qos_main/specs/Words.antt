@@ -55,7 +55,7 @@ command_with input output (Some line) (Some size) (Some credits) (Some period) =
 command_with _ _ _ _ _ _ = None
 
 -- the command that the words ask for, if they are just `run IN OUT LINE SIZE CREDITS PERIOD`
-abbrev pub command_of : List (List ℕ) → Option Command
+unfoldable pub command_of : List (List ℕ) → Option Command
 command_of (word ∷ input ∷ output ∷ line ∷ size ∷ credits ∷ period ∷ []) =
     if begins_run word input output
     then command_with input output (line_of line) (bucket_number_of size) (bucket_number_of credits) (bucket_number_of period)

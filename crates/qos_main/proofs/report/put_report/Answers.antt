@@ -1,4 +1,3 @@
-use Rattle.std.proofs.Common.{◌≡◌}
 use Rattle.qos_main.proofs.report.put_report.Goals as goal
 
 pub returns-then-status-eq2-clause-told : goal.returns-then-status-eq2-clause-told

@@ -1,4 +1,4 @@
-use Rattle.std.proofs.Common.{◌≡◌, ◌≢◌, [], ◌∷◌, true, false, map, string_bytes, length, None, sym, ap, ◌∙◌, arith, rules}
+use Rattle.std.proofs.Common.{◌≡◌, [], ◌∷◌, true, false, map, string_bytes, ap, ◌∙◌, arith, rules}
 use Rattle.qos_main.specs.Words.{begins_run, command_of}
 use Rattle.qos_main.proofs.Seven.{other_count, seven, begun, not_begun, names_differ}
 use Rattle.qos_main.proofs.words.read_command.Goals as goal
