@@ -1,3 +1,4 @@
+pub mod Words
 pub mod Bodies
 pub mod Kept
 pub mod Fate
@@ -6,3 +7,6 @@ pub mod Pacer
 pub mod Schedule
 pub mod Paced
 pub mod PortRun
+pub mod Run
+pub mod Drive
+pub mod Report

@@ -5,6 +5,7 @@ use Rattle.qos_base.specs.declared.packet.Pkt.{Pkt}
 use Rattle.qos_base.specs.declared.packet.Departure.{Departure}
 use Rattle.port_sched.specs.PortState.{Shaper, PortState}
 use Rattle.qos_main.specs.declared.entry.Entry.{Entry}
+use Rattle.qos_main.specs.declared.outcome.PortOutcome.{PortOutcome}
 use Rattle.qos_main.specs.Pacer.{PacerState, new_pacer}
 use Rattle.qos_main.specs.Schedule.{Schedule, schedule_of, arrivals_of, dequeues_in}
 use Rattle.qos_main.specs.Paced.{Plan, Course}
@@ -53,3 +54,13 @@ pub record IsBetween (r : RunState) : Type 0 where
   pub there : r.pacer.aim ≤ r.pacer.clock
   pub clock : r.pacer.clock ≤ 2 ^ 57
   pub ready : IsReady r
+
+-- what the run of a port with this bucket comes to: the sends and the numbers of the schedule of its journal
+pub record IsOutcomeOf (shaper : Shaper) (outcome : PortOutcome) : Type 0 where
+  pub sends : outcome.sends.items ≡ (schedule_of shaper outcome.journal.items).sends
+  pub arrived : outcome.arrived ≡ length (arrivals_of outcome.journal.items)
+  pub left : outcome.left ≡ length (schedule_of shaper outcome.journal.items).port.queue
+  pub dropped : outcome.dropped ≡ length (schedule_of shaper outcome.journal.items).drops
+  pub dequeues : outcome.dequeues ≡ dequeues_in outcome.journal.items
+  pub time : outcome.time ≡ (schedule_of shaper outcome.journal.items).port.time
+  pub account : IsPermutation (arrivals_of outcome.journal.items) ((parcels (schedule_of shaper outcome.journal.items).sends ++ (schedule_of shaper outcome.journal.items).port.queue) ++ (schedule_of shaper outcome.journal.items).drops)

@@ -4,6 +4,7 @@ ghost use Rattle.qos_main.specs.declared.entry.Entry.TheVariants.{Arrive, Dequeu
 ghost use Rattle.std.specs.Option.{unwrap_or};
 
 use crate::entry::Entry;
+use crate::outcome::PortOutcome;
 use crate::pacer::Pacer;
 use port_sched::PlainSched;
 use qos_base::{Departure, NoMemory, Pkt};
@@ -44,10 +45,9 @@ impl Model for PortRun {
 
 impl PortRun {
     ghost use Rattle.qos_main.specs.Pacer.{PacerState, aimed, next_in, after_at};
-    ghost use Rattle.qos_main.specs.Schedule.{Schedule, schedule_of, arrivals_of, dequeues_in};
+    ghost use Rattle.qos_main.specs.Schedule.{Schedule, schedule_of, arrivals_of};
     ghost use Rattle.qos_main.specs.Paced.{Course, advance, arrived, joined_at, stands};
-    ghost use Rattle.qos_main.specs.PortRun.{RunState, new_run, course_of, schedule, IsReady, IsBetween, parcels};
-    ghost use Rattle.std.specs.List.Sorted.{IsPermutation};
+    ghost use Rattle.qos_main.specs.PortRun.{RunState, new_run, course_of, schedule, IsReady, IsBetween, IsOutcomeOf};
 
     /// A port at its start, whose bucket has `size` and earns `credits` every `period`: bytes, bytes and
     /// byte times, each 1 to 2^40.
@@ -204,13 +204,7 @@ impl PortRun {
     /// Ends the run: its journal, what it sent, and its numbers.
     pub fn finish(self) -> PortOutcome
         ensures journal { result.journal.items ≡ self.journal }
-        ensures sends { result.sends.items ≡ (schedule self).sends }
-        ensures arrived { result.arrived ≡ length (arrivals_of self.journal) }
-        ensures left { result.left ≡ length (schedule self).port.queue }
-        ensures dropped { result.dropped ≡ length (schedule self).drops }
-        ensures dequeues { result.dequeues ≡ dequeues_in self.journal }
-        ensures time { result.time ≡ (schedule self).port.time }
-        ensures account { IsPermutation (arrivals_of self.journal) ((parcels (schedule self).sends ++ (schedule self).port.queue) ++ (schedule self).drops) }
+        ensures outcome { IsOutcomeOf self.plan.shaper result }
     {
         let PortRun {
             sched,
@@ -231,23 +225,4 @@ impl PortRun {
             time: sched.time(),
         }
     }
-}
-
-/// What the run of a port comes to.
-#[derive(Drop)]
-pub struct PortOutcome {
-    /// Every arrival and dequeue, in order.
-    pub journal: Vec<Entry>,
-    /// Every packet that was sent, in order, with the byte time at which it goes out.
-    pub sends: Vec<Departure<Pkt>>,
-    /// How many packets arrived.
-    pub arrived: u64,
-    /// How many still wait.
-    pub left: u64,
-    /// How many were turned away.
-    pub dropped: u64,
-    /// How many dequeues were made.
-    pub dequeues: u64,
-    /// Port time, in byte times of the line.
-    pub time: u64,
 }
