@@ -3,3 +3,4 @@ pub mod Pacer
 pub mod Schedule
 pub mod Paced
 pub mod PortRun
+pub mod Output
