@@ -1,10 +1,10 @@
 -- What is put of an output, a send at a time.
-use Rattle.std.proofs.Common.{◌≡◌, ◌<◌, ◌≤◌, ℕ, zero, suc, ◌+◌, List, [], ◌∷◌, ◌++◌, length, take, get_or, slice_get, slice_index_or, All, Option, Some, None, refl, sym, ap, ◌∙◌, inl, inr, arith, zero-add, suc-add, length-append, option_map}
+use Rattle.std.proofs.Common.{◌≡◌, ◌<◌, ◌≤◌, ℕ, zero, suc, ◌+◌, List, [], ◌∷◌, ◌++◌, length, take, get_or, slice_get, slice_index_or, All, Option, Some, None, refl, sym, ap, subst, ◌∙◌, inl, inr, arith, zero-add, suc-add, length-append, option_map}
 use Rattle.std.specs.List.{flat_map}
 use Rattle.std.proofs.lemmas.Bool.{cases_lt}
 use Rattle.std.proofs.lemmas.Grind.{flat_map-append, common_steps}
-use Rattle.std.proofs.lemmas.List.{append_assoc, append-nil, take-append-le, take_more}
-use Rattle.std.proofs.lemmas.Option.{slice_get_read}
+use Rattle.std.proofs.lemmas.List.{append_assoc, append-nil, take-append-le, take_all, take_more}
+use Rattle.std.proofs.lemmas.Option.{slice_get-get_or}
 use Rattle.qos_base.specs.declared.packet.Pkt.{Pkt}
 use Rattle.qos_base.specs.declared.packet.Departure.{Departure}
 use Rattle.qos_base.specs.Time.{send_stamp_of}
@@ -68,23 +68,25 @@ module _ {K : Type 0} (contents name : K → Option (List ℕ)) (faults : K → 
   }
 
 -- one send more
-pub sends_text-take_more : (origin line : ℕ) (body : ℕ → List ℕ) (sends : List (Departure Pkt)) (i : ℕ) (d : Departure Pkt) → i < length sends → d ≡ get_or sends i d
-    → sends_text origin line body (take i sends) ++ send_text origin line body d ≡ sends_text origin line body (take (i + 1) sends)
-sends_text-take_more origin line body sends i d h e =
+pub sends_text-take_more : (origin line : ℕ) (body : ℕ → List ℕ) (sends : List (Departure Pkt)) (i : ℕ) (d : Departure Pkt) → i < length sends
+    → sends_text origin line body (take i sends) ++ send_text origin line body (get_or sends i d) ≡ sends_text origin line body (take (i + 1) sends)
+sends_text-take_more origin line body sends i d h =
     let f : Departure Pkt → List ℕ = send_text origin line body in
-    sym (ap (flat_map f) (take_more sends i d h ∙ ap (λ (x : Departure Pkt). take i sends ++ x ∷ []) (sym e))
-    ∙ flat_map-append f (take i sends) (d ∷ []) ∙ ap (λ (r : List ℕ). flat_map f (take i sends) ++ r) (append-nil (f d)))
+    sym (ap (flat_map f) (take_more sends i d h)
+    ∙ flat_map-append f (take i sends) (get_or sends i d ∷ []) ∙ ap (λ (r : List ℕ). flat_map f (take i sends) ++ r) (append-nil (f (get_or sends i d))))
 
 -- the record of the next send was cut
-pub cut_in_record : (origin line : ℕ) (body : ℕ → List ℕ) (sends : List (Departure Pkt)) (i n : ℕ) (d : Departure Pkt) → i < length sends → d ≡ get_or sends i d → n ≤ length (send_text origin line body d)
-    → IsCutInRecord origin line body sends i (sends_text origin line body (take i sends) ++ take n (send_text origin line body d))
-cut_in_record origin line body sends i n d h e part = record {
-  next = d;
-  is_next = slice_get_read sends (length sends) i d refl h e;
-  n = n;
-  part = part;
-  is = refl;
-}
+pub cut_in_record : (origin line : ℕ) (body : ℕ → List ℕ) (sends : List (Departure Pkt)) (count i n : ℕ) (d : Departure Pkt) → count ≡ i → i < length sends → n ≤ length (send_text origin line body (get_or sends i d))
+    → IsCutInRecord origin line body sends count (sends_text origin line body (take i sends) ++ take n (send_text origin line body (get_or sends i d)))
+cut_in_record origin line body sends count i n d same h part =
+    subst (λ m. IsCutInRecord origin line body sends m (sends_text origin line body (take i sends) ++ take n (send_text origin line body (get_or sends i d)))) (sym same)
+    (record {
+      next = get_or sends i d;
+      is_next = slice_get-get_or sends i d h;
+      n = n;
+      part = part;
+      is = refl;
+    })
 
 take_behind : (n : ℕ) (first second : List ℕ) → take (length first + n) (first ++ second) ≡ first ++ take n second
 take_behind n [] second = rw (zero-add n) refl
@@ -123,6 +125,46 @@ flat_map-same f g [] same = refl
 flat_map-same f g (x ∷ xs) same =
     ap (λ (t : List ℕ). t ++ flat_map f xs) (same zero x (omega arith))
     ∙ ap (λ (t : List ℕ). g x ++ t) (flat_map-same f g xs (λ k d h. same (suc k) d (omega arith)))
+
+-- some of the text was put after what was held
+abbrev pub PutSome : List ℕ → Option (List ℕ) → Option (List ℕ) → Type 0
+PutSome text before after = (n : ℕ) × (n ≤ length text) × (after ≡ held_after (take n text) before)
+
+module _ (origin line : ℕ) (body : ℕ → List ℕ) (sends : List (Departure Pkt)) where
+  -- the put of a record was refused, after those before it
+  pub cut_sends : (count i : ℕ) (d : Departure Pkt) (before between after : Option (List ℕ)) → count ≡ i → i < length sends → between ≡ held_after (sends_text origin line body (take i sends)) before
+      → PutSome (send_text origin line body (get_or sends i d)) between after → (records : List ℕ) × IsCutInRecord origin line body sends count records × (after ≡ held_after records before)
+  cut_sends count i d before between after same h was (n, part, is) =
+      let whole : List ℕ = sends_text origin line body (take i sends) in
+      let some : List ℕ = take n (send_text origin line body (get_or sends i d)) in
+      (whole ++ some, cut_in_record origin line body sends count i n d same h part, put_both whole some before between after was is)
+
+  -- all records were put
+  pub all_sends : (i : ℕ) (before after : Option (List ℕ)) → length sends ≤ i → after ≡ held_after (sends_text origin line body (take i sends)) before → after ≡ held_after (sends_text origin line body sends) before
+  all_sends i before after h is =
+      is ∙ ap (λ some. held_after (sends_text origin line body some) before) (take_all i sends h)
+
+  -- the header was put, and all records
+  pub all_output : (before between after : Option (List ℕ)) → between ≡ held_after header_text before → after ≡ held_after (sends_text origin line body sends) between → after ≡ held_after (output_text origin line body sends) before
+  unfolding output_text
+  all_output before between after was is = put_both header_text (sends_text origin line body sends) before between after was is
+
+  -- the put of the header was refused
+  pub cut_header : (before after : Option (List ℕ)) → PutSome header_text before after → (text : List ℕ) × IsCut origin line body sends 0 text × (after ≡ held_after text before)
+  cut_header before after (n, part, is) = (take n header_text, inl (record { none = refl; n = n; part = part; is = refl }), is)
+
+  -- the header was put, and the records were cut
+  pub cut_output : (count : ℕ) (before between after : Option (List ℕ)) → between ≡ held_after header_text before
+      → (records : List ℕ) × IsCutInRecord origin line body sends count records × (after ≡ held_after records between) → (text : List ℕ) × IsCut origin line body sends count text × (after ≡ held_after text before)
+  cut_output count before between after was (records, cut, is) =
+      (header_text ++ records, inr (records, cut, refl), put_both header_text records before between after was is)
+
+  -- what was cut is a first part
+  pub prefix_put : (count : ℕ) (before after : Option (List ℕ)) → (text : List ℕ) × IsCut origin line body sends count text × (after ≡ held_after text before)
+      → (n : ℕ) × (after ≡ held_after (take n (output_text origin line body sends)) before)
+  prefix_put count before after (text, cut, is) =
+      let first = take-output_text origin line body sends count text cut in
+      (first.0, is ∙ ap (λ (t : List ℕ). held_after t before) first.1)
 
 -- Where two give the same body at each send's place, they give the same output.
 pub output_text-same : (origin line : ℕ) (f g : ℕ → List ℕ) (sends : List (Departure Pkt)) → All (λ (d : Departure Pkt). f d.parcel.index ≡ g d.parcel.index) sends
