@@ -1,5 +1,5 @@
 -- What is put of an output, a send at a time.
-use Rattle.std.proofs.Common.{◌≡◌, ◌<◌, ◌≤◌, ℕ, zero, suc, ◌+◌, List, [], ◌∷◌, ◌++◌, length, take, get_or, slice_get, slice_index_or, All, Option, Some, None, refl, sym, ap, subst, ◌∙◌, inl, inr, arith, zero-add, suc-add, length-append, option_map}
+use Rattle.std.proofs.Common.{◌≡◌, ◌<◌, ◌≤◌, ℕ, zero, suc, ◌+◌, List, [], ◌∷◌, ◌++◌, length, take, get_or, slice_get, slice_index_or, All, IfNone, Option, Some, None, refl, sym, ap, subst, ◌∙◌, inl, inr, arith, zero-add, suc-add, length-append, option_map}
 use Rattle.std.specs.List.{flat_map}
 use Rattle.std.proofs.lemmas.Bool.{cases_lt}
 use Rattle.std.proofs.lemmas.Grind.{flat_map-append, common_steps}
@@ -165,6 +165,11 @@ module _ (origin line : ℕ) (body : ℕ → List ℕ) (sends : List (Departure 
   prefix_put count before after (text, cut, is) =
       let first = take-output_text origin line body sends count text cut in
       (first.0, is ∙ ap (λ (t : List ℕ). held_after t before) first.1)
+
+-- what follows from a fact at a `None`
+pub IfNone_then : {X P Q : Type 0} (o : Option X) → (P → Q) → IfNone o P → IfNone o Q
+IfNone_then None f p = f p
+IfNone_then (Some x) f p = p
 
 -- Where two give the same body at each send's place, they give the same output.
 pub output_text-same : (origin line : ℕ) (f g : ℕ → List ℕ) (sends : List (Departure Pkt)) → All (λ (d : Departure Pkt). f d.parcel.index ≡ g d.parcel.index) sends
