@@ -6,3 +6,4 @@ pub mod Runs
 pub mod Courses
 pub mod Advances
 pub mod Opens
+pub mod Outputs

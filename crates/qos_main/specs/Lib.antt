@@ -10,3 +10,4 @@ pub mod PortRun
 pub mod Run
 pub mod Drive
 pub mod Report
+pub mod Output

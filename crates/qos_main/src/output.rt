@@ -1,0 +1,119 @@
+//! Writing the output of a port.
+ghost use Rattle.std.specs.Prelude.{◌≡◌, ◌≤◌, ℕ, List, All, Some, length, take, IfSome, IfNone, OnOk, OnErr, IsErrOf};
+ghost use Rattle.qos_base.specs.Time.{IsLineRate};
+ghost use Rattle.qos_io.specs.Bytes.{held_after};
+ghost use Rattle.qos_io.specs.Fault.{HasRisen};
+ghost use Rattle.qos_main.specs.Output.{send_text, sends_text, output_text, kept, IsWritable, IsCut, IsCutInRecord};
+
+use crate::bodies::Bodies;
+use qos_base::{Departure, Pkt, send_stamp};
+use qos_io::{PutFault, Sink};
+use qos_pcap::{put_header, put_record};
+
+/// What was written of an output.
+#[derive(Clone, Copy, Debug, PartialEq, Eq)]
+pub struct Written {
+    /// How many sends' records were put whole.
+    pub count: u64,
+    /// Why the last put was refused; None where none was.
+    pub fault: Option<PutFault>,
+}
+
+// Writes the record of a send.
+fn put_send<K: Sink>(
+    out: &mut K,
+    origin: u64,
+    line: u64,
+    bodies: &Bodies,
+    send: &Departure<Pkt>,
+) -> Result<(), PutFault>
+    requires line { IsLineRate line }
+    requires writable { IsWritable bodies.now send.now }
+    ensures added { OnOk result (K.contents out.new ≡ held_after (send_text origin line (kept bodies.now) send.now) (K.contents out.old)) }
+    ensures refused { OnErr result ((n : ℕ) × (n ≤ length (send_text origin line (kept bodies.now) send.now))
+        × (K.contents out.new ≡ held_after (take n (send_text origin line (kept bodies.now) send.now)) (K.contents out.old))) }
+    ensures failed { IsErrOf result PutFault.Failed → HasRisen (K.faults out.old) (K.faults out.new) }
+    ensures name { K.name out.new ≡ K.name out.old }
+    ensures never_falls { K.faults out.old ≤ K.faults out.new }
+    ensures sure { K.IsSure out.old → K.IsSure out.new × (IsErrOf result PutFault.Failed → ⊥) × (K.faults out.new ≡ K.faults out.old) }
+{
+    let packet = send.parcel;
+    let stamp = send_stamp(origin, send.time, line);
+    put_record(
+        out,
+        stamp,
+        packet.wire,
+        bodies.get(packet.index as usize),
+    )
+}
+
+// Writes the records of the sends, up to the first refused put.
+fn write_sends<K: Sink>(
+    out: &mut K,
+    origin: u64,
+    line: u64,
+    bodies: &Bodies,
+    sends: &[Departure<Pkt>],
+) -> Written
+    requires line { IsLineRate line }
+    requires writable { All (IsWritable bodies.now) sends.now }
+    ensures all { IfNone result.fault (result.count ≡ length sends.now) }
+    ensures whole { IfNone result.fault (K.contents out.new ≡ held_after (sends_text origin line (kept bodies.now) sends.now) (K.contents out.old)) }
+    ensures cut { IfSome result.fault (λ fault. (records : List ℕ) × IsCutInRecord origin line (kept bodies.now) sends.now result.count records
+        × (K.contents out.new ≡ held_after records (K.contents out.old))) }
+    ensures within { result.count ≤ length sends.now }
+    ensures failed { result.fault ≡ Some PutFault.Failed → HasRisen (K.faults out.old) (K.faults out.new) }
+    ensures name { K.name out.new ≡ K.name out.old }
+    ensures never_falls { K.faults out.old ≤ K.faults out.new }
+    ensures sure { K.IsSure out.old → K.IsSure out.new × (result.fault ≡ Some PutFault.Failed → ⊥) × (K.faults out.new ≡ K.faults out.old) }
+{
+    let mut count = 0;
+    for send in sends {
+        if let Err(fault) = put_send(out, origin, line, bodies, send) {
+            return Written {
+                count,
+                fault: Some(fault),
+            };
+        }
+        count += 1;
+    }
+    Written { count, fault: None }
+}
+
+/// Writes an output: the header, and the record of each send, in order, up to the first refused put. After
+/// that nothing more is put. What a sent packet captured is its body among `bodies`, by its place in the
+/// input.
+///
+/// `origin` is in nanoseconds, and `line` in bytes per second.
+pub fn write_output<K: Sink>(
+    out: &mut K,
+    origin: u64,
+    line: u64,
+    bodies: &Bodies,
+    sends: &[Departure<Pkt>],
+) -> Written
+    requires line { IsLineRate line }
+    requires writable { All (IsWritable bodies.now) sends.now }
+
+    ensures all { IfNone result.fault (result.count ≡ length sends.now) }
+    ensures whole { IfNone result.fault (K.contents out.new ≡ held_after (output_text origin line (kept bodies.now) sends.now) (K.contents out.old)) }
+
+    // After a refused put there is exactly what was put before it, and what the sink took of it.
+    ensures cut { IfSome result.fault (λ fault. (text : List ℕ) × IsCut origin line (kept bodies.now) sends.now result.count text
+        × (K.contents out.new ≡ held_after text (K.contents out.old))) }
+    ensures prefix { IfSome result.fault (λ fault. (n : ℕ) × (K.contents out.new ≡ held_after (take n (output_text origin line (kept bodies.now) sends.now)) (K.contents out.old))) }
+    ensures within { result.count ≤ length sends.now }
+
+    ensures failed { result.fault ≡ Some PutFault.Failed → HasRisen (K.faults out.old) (K.faults out.new) }
+    ensures name { K.name out.new ≡ K.name out.old }
+    ensures never_falls { K.faults out.old ≤ K.faults out.new }
+    ensures sure { K.IsSure out.old → K.IsSure out.new × (result.fault ≡ Some PutFault.Failed → ⊥) × (K.faults out.new ≡ K.faults out.old) }
+{
+    if let Err(fault) = put_header(out) {
+        return Written {
+            count: 0,
+            fault: Some(fault),
+        };
+    }
+    write_sends(out, origin, line, bodies, sends)
+}
