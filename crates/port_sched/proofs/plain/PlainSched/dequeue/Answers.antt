@@ -14,7 +14,7 @@ module _ {T : Type 0} (held out : List (Departure T)) (all : List (Departure T))
       omega (arith, lengths)
 
 pub loop-left-preserved : goal.loop-left-preserved
-loop-left-preserved g c = 
+loop-left-preserved g c =
     let sent : 0 < c.visit-sent.result = omega arith in
     let count = c.visit-sent.ensures.count in
     let grew = ap length c.visit-sent.ensures.sends ∙ length-append c.loop-left.out.items (visit g.T.Parcel.packet c.loop-left.left c.loop-left.self).sends in
