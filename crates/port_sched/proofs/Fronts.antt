@@ -1,5 +1,5 @@
 -- The longest front that room and credits allow.
-use Rattle.std.proofs.Common.{◌≡◌, ◌<◌, ◌≤◌, ℕ, zero, suc, ◌+◌, ◌-◌, List, length, take, drop, refl, sym, ap, ◌∙◌, arith, cond, leb, ⊎_elim}
+use Rattle.std.proofs.Common.{◌≡◌, ◌<◌, ◌≤◌, ℕ, zero, suc, ◌+◌, ◌-◌, List, take, sym, ap, ◌∙◌, arith, cond, leb, ⊎_elim}
 use Rattle.std.proofs.lemmas.Bool.{cases_lt}
 use Rattle.std.proofs.lemmas.Bool.Decides.{nat_tests}
 use Rattle.qos_base.specs.declared.packet.Pkt.{Pkt}

@@ -77,6 +77,15 @@ module _ {T : Type 0} (packet : T → Pkt) (first : PortState T) (held : List (D
       sym (ap (λ (d : Dequeued T). length d.sends) (visit-sent s now out sent stepped so_far ended)
       ∙ length-sends_from packet first.time (take sent first.queue) ∙ length-take-le sent first.queue so_far.there)
 
+  -- so are what was sent and where the port stands, in the words of the visit
+  pub state-visit : (s now next : PortState T) (out : List (Departure T)) (sent : ℕ) → first ≡ tick s.time s → HasSent packet first held room now out sent → (room ≤ sent) ⊎ (0 < length now.queue → now.credits < total_cost packet (take 1 now.queue)) → next ≡ now → next ≡ (visit packet room s).state
+  state-visit s now next out sent stepped so_far ended same =
+      same ∙ so_far.state ∙ ap (λ (d : Dequeued T). d.state) (sym (visit-sent s now out sent stepped so_far ended))
+
+  pub sends-visit : (s now : PortState T) (out grown : List (Departure T)) (sent : ℕ) → first ≡ tick s.time s → HasSent packet first held room now out sent → (room ≤ sent) ⊎ (0 < length now.queue → now.credits < total_cost packet (take 1 now.queue)) → grown ≡ out → grown ≡ held ++ (visit packet room s).sends
+  sends-visit s now out grown sent stepped so_far ended same =
+      same ∙ so_far.sends ∙ ap (λ (d : Dequeued T). held ++ d.sends) (sym (visit-sent s now out sent stepped so_far ended))
+
   -- what was sent was at the front, in its order
   pub order-sent : (now : PortState T) (out : List (Departure T)) (sent : ℕ) → HasSent packet first held room now out sent → map (λ (d : Departure T). d.parcel) out ++ now.queue ≡ map (λ (d : Departure T). d.parcel) held ++ first.queue
   order-sent now out sent so_far =
@@ -86,3 +95,10 @@ module _ {T : Type 0} (packet : T → Pkt) (first : PortState T) (held : List (D
       ∙ ap (λ ps. map (λ (d : Departure T). d.parcel) held ++ (ps ++ now.queue)) (parcels-sends_from packet first.time (take sent first.queue))
       ∙ ap (λ (s : PortState T). map (λ (d : Departure T). d.parcel) held ++ (take sent first.queue ++ s.queue)) so_far.state
       ∙ ap (λ ps. map (λ (d : Departure T). d.parcel) held ++ ps) (take-append-drop sent first.queue)
+
+  pub order-visit : (s now next : PortState T) (out grown : List (Departure T)) (sent : ℕ) → first ≡ tick s.time s → HasSent packet first held room now out sent → next ≡ now → grown ≡ out → map (λ (d : Departure T). d.parcel) grown ++ next.queue ≡ map (λ (d : Departure T). d.parcel) held ++ s.queue
+  order-visit s now next out grown sent stepped so_far same same_out =
+      ap (λ (n : PortState T). map (λ (d : Departure T). d.parcel) grown ++ n.queue) same
+      ∙ ap (λ ds. map (λ (d : Departure T). d.parcel) ds ++ now.queue) same_out
+      ∙ order-sent now out sent so_far
+      ∙ ap (λ (f : PortState T). map (λ (d : Departure T). d.parcel) held ++ f.queue) stepped
