@@ -1,5 +1,5 @@
 -- The longest front that room and credits allow.
-use Rattle.std.proofs.Common.{◌≡◌, ◌<◌, ◌≤◌, ℕ, zero, suc, ◌+◌, ◌-◌, List, length, take, drop, refl, sym, ap, ◌∙◌, arith, cond, leb, ⊎_elim}
+use Rattle.std.proofs.Common.{◌≡◌, ◌<◌, ◌≤◌, ℕ, zero, suc, ◌+◌, ◌-◌, List, take, sym, ap, ◌∙◌, arith, cond, leb, ⊎_elim}
 use Rattle.std.proofs.lemmas.Bool.{cases_lt}
 use Rattle.std.proofs.lemmas.Bool.Decides.{nat_tests}
 use Rattle.qos_base.specs.declared.packet.Pkt.{Pkt}
@@ -19,14 +19,14 @@ module _ {T : Type 0} (packet : T → Pkt) where
   longest_front-is credits zero i ts within paid longer = omega arith
   longest_front-is credits (suc n) i ts within paid longer =
       ⊎_elim
-        (λ (below : i < suc n).
-          cond-gt (total_cost packet (take (suc n) ts)) credits (suc n) (longest_front packet credits n ts) (longer (suc n) below (omega arith))
-          ∙ longest_front-is credits n i ts (omega arith) paid (λ k above k_within. longer k above (omega arith)))
-        (λ (not_below : suc n ≤ i).
-          let all : i ≡ suc n = omega arith in
-          let affordable : total_cost packet (take (suc n) ts) ≤ credits = rw all at paid in
-          cond-le (total_cost packet (take (suc n) ts)) credits (suc n) (longest_front packet credits n ts) affordable ∙ sym all)
-        (cases_lt i (suc n))
+      (λ (below : i < suc n).
+      cond-gt (total_cost packet (take (suc n) ts)) credits (suc n) (longest_front packet credits n ts) (longer (suc n) below (omega arith))
+      ∙ longest_front-is credits n i ts (omega arith) paid (λ k above k_within. longer k above (omega arith)))
+      (λ (not_below : suc n ≤ i).
+      let all : i ≡ suc n = omega arith in
+      let affordable : total_cost packet (take (suc n) ts) ≤ credits = rw all at paid in
+      cond-le (total_cost packet (take (suc n) ts)) credits (suc n) (longest_front packet credits n ts) affordable ∙ sym all)
+      (cases_lt i (suc n))
 
   -- where one more packet is not affordable, no longer front is
   pub longer-costs : (credits i k : ℕ) (ts : List T) → credits < total_cost packet (take (i + 1) ts) → i < k → credits < total_cost packet (take k ts)

@@ -2,7 +2,7 @@
 use Rattle.std.proofs.Common.{◌≡◌, ◌≤◌, ℕ, ◌-◌, ◌*◌, ◌/◌, List, ap, ◌∙◌, arith}
 use Rattle.std.proofs.Math.Nat.{mul-div_cancel_left}
 use Rattle.credit_book.specs.Bucket.{TokenBucket, brought, after_periods, multiples}
-use Rattle.port_sched.specs.PortState.{Shaper, PortState, tick}
+use Rattle.port_sched.specs.PortState.{PortState, tick}
 
 -- since the last multiple up to a moment there are as many multiples as since that moment
 pub multiples-from_whole : (period ticked t : ℕ) → 1 ≤ period → multiples period (period * (ticked / period)) t ≡ multiples period ticked t

@@ -1,5 +1,5 @@
 -- A turn, a visit at a time.
-use Rattle.std.proofs.Common.{◌≡◌, ◌<◌, ◌≤◌, ◌⊎◌, ℕ, zero, suc, ◌+◌, ◌-◌, List, [], ◌++◌, length, refl, sym, ap, ◌∙◌, ⊎_elim, append_assoc, cond, eqb, ◌||◌, arith}
+use Rattle.std.proofs.Common.{◌≡◌, ◌<◌, ◌≤◌, ◌⊎◌, ℕ, zero, suc, ◌-◌, List, [], ◌++◌, length, refl, sym, ap, ◌∙◌, append_assoc, cond, eqb, ◌||◌, arith}
 use Rattle.std.proofs.lemmas.Bool.Decides.{nat_tests}
 use Rattle.std.proofs.lemmas.List.{append-nil}
 use Rattle.qos_base.specs.declared.packet.Pkt.{Pkt}
@@ -66,7 +66,7 @@ module _ {T : Type 0} (packet : T → Pkt) where
           visits = visits;
           enough = omega arith;
           sends = sends ∙ ap (λ (d : Dequeued T). out ++ d.sends) step ∙ sym (append_assoc out first.sends (turn packet visits (left - length first.sends) first.state).sends)
-            ∙ ap (λ items. items ++ (turn packet visits (left - length first.sends) first.state).sends) (sym grew) ∙ ap (λ (d : Dequeued T). grown ++ d.sends) rest;
+              ∙ ap (λ items. items ++ (turn packet visits (left - length first.sends) first.state).sends) (sym grew) ∙ ap (λ (d : Dequeued T). grown ++ d.sends) rest;
           state = state ∙ ap (λ (d : Dequeued T). d.state) step ∙ ap (λ (d : Dequeued T). d.state) rest;
         }
 
@@ -77,12 +77,14 @@ module _ {T : Type 0} (packet : T → Pkt) where
     -- the turn is over
     pub GoesOn-over : (left : ℕ) (now : PortState T) (out : List (Departure T)) → GoesOn packet room start held left now out → (left ≡ 0) ⊎ (length now.queue ≡ 0) → (now ≡ (turn packet room room start).state) × (out ≡ held ++ (turn packet room room start).sends)
     GoesOn-over left now out so_far over =
-        let last = turn-over so_far.visits left now over in
-        ( sym (so_far.state ∙ ap (λ (d : Dequeued T). d.state) last),
-          sym (so_far.sends ∙ ap (λ (d : Dequeued T). out ++ d.sends) last ∙ append-nil out) )
+        let last = turn-over so_far.visits left now over in (
+          sym (so_far.state ∙ ap (λ (d : Dequeued T). d.state) last),
+          sym (so_far.sends ∙ ap (λ (d : Dequeued T). out ++ d.sends) last ∙ append-nil out),
+        )
 
     pub GoesOn-idle : (left : ℕ) (now next : PortState T) (out grown : List (Departure T)) → GoesOn packet room start held left now out → 0 < left → 0 < length now.queue → length (visit packet left now).sends ≡ 0 → next ≡ (visit packet left now).state → grown ≡ out ++ (visit packet left now).sends → (next ≡ (turn packet room room start).state) × (grown ≡ held ++ (turn packet room room start).sends)
     GoesOn-idle left now next out grown so_far some waits idle is grew =
-        let last = turn-idle so_far.visits left now some so_far.enough waits idle in
-        ( is ∙ sym (so_far.state ∙ ap (λ (d : Dequeued T). d.state) last),
-          grew ∙ sym (so_far.sends ∙ ap (λ (d : Dequeued T). out ++ d.sends) last) )
+        let last = turn-idle so_far.visits left now some so_far.enough waits idle in (
+          is ∙ sym (so_far.state ∙ ap (λ (d : Dequeued T). d.state) last),
+          grew ∙ sym (so_far.sends ∙ ap (λ (d : Dequeued T). out ++ d.sends) last),
+        )

@@ -33,9 +33,9 @@ module _ {T : Type 0} (packet : T → Pkt) (first : PortState T) (held : List (D
       record {
         state = state ∙ ap (λ (s : PortState T). (sends_first packet 1 s).state) so_far.state ∙ sends_first-add packet sent 1 first;
         sends = sends ∙ ap (λ sends. sends ++ (sends_first packet 1 now).sends) so_far.sends
-          ∙ append_assoc held (sends_first packet sent first).sends (sends_first packet 1 now).sends
-          ∙ ap (λ (s : PortState T). held ++ ((sends_first packet sent first).sends ++ (sends_first packet 1 s).sends)) so_far.state
-          ∙ ap (λ sends. held ++ sends) (sends-sends_first-add packet sent 1 first);
+            ∙ append_assoc held (sends_first packet sent first).sends (sends_first packet 1 now).sends
+            ∙ ap (λ (s : PortState T). held ++ ((sends_first packet sent first).sends ++ (sends_first packet 1 s).sends)) so_far.state
+            ∙ ap (λ sends. held ++ sends) (sends-sends_first-add packet sent 1 first);
         there = omega arith;
         paid = omega arith;
         at_least = omega arith;
@@ -55,11 +55,11 @@ module _ {T : Type 0} (packet : T → Pkt) (first : PortState T) (held : List (D
       let had = so_far.there in
       longest_front-is packet first.credits (min room (length first.queue)) sent first.queue (omega arith) paid
       (λ k above in_room. ⊎_elim
-        (λ (full : room ≤ sent). absurd (omega arith))
-        (λ (dear : 0 < length now.queue → now.credits < total_cost packet (take 1 now.queue)).
-          let too_dear : now.credits < total_cost packet (take 1 now.queue) = dear (omega arith) in
-          longer-costs packet first.credits sent k first.queue (omega arith) above)
-        ended)
+      (λ (full : room ≤ sent). absurd (omega arith))
+      (λ (dear : 0 < length now.queue → now.credits < total_cost packet (take 1 now.queue)).
+      let too_dear : now.credits < total_cost packet (take 1 now.queue) = dear (omega arith) in
+      longer-costs packet first.credits sent k first.queue (omega arith) above)
+      ended)
 
   -- so the visit has sent just these
   pub visit-sent : (s now : PortState T) (out : List (Departure T)) (sent : ℕ) → first ≡ tick s.time s → HasSent packet first held room now out sent → (room ≤ sent) ⊎ (0 < length now.queue → now.credits < total_cost packet (take 1 now.queue)) → visit packet room s ≡ sends_first packet sent first
@@ -75,7 +75,16 @@ module _ {T : Type 0} (packet : T → Pkt) (first : PortState T) (held : List (D
   pub length-visit : (s now : PortState T) (out : List (Departure T)) (sent : ℕ) → first ≡ tick s.time s → HasSent packet first held room now out sent → (room ≤ sent) ⊎ (0 < length now.queue → now.credits < total_cost packet (take 1 now.queue)) → sent ≡ length (visit packet room s).sends
   length-visit s now out sent stepped so_far ended =
       sym (ap (λ (d : Dequeued T). length d.sends) (visit-sent s now out sent stepped so_far ended)
-        ∙ length-sends_from packet first.time (take sent first.queue) ∙ length-take-le sent first.queue so_far.there)
+      ∙ length-sends_from packet first.time (take sent first.queue) ∙ length-take-le sent first.queue so_far.there)
+
+  -- so are what was sent and where the port stands, in the words of the visit
+  pub state-visit : (s now next : PortState T) (out : List (Departure T)) (sent : ℕ) → first ≡ tick s.time s → HasSent packet first held room now out sent → (room ≤ sent) ⊎ (0 < length now.queue → now.credits < total_cost packet (take 1 now.queue)) → next ≡ now → next ≡ (visit packet room s).state
+  state-visit s now next out sent stepped so_far ended same =
+      same ∙ so_far.state ∙ ap (λ (d : Dequeued T). d.state) (sym (visit-sent s now out sent stepped so_far ended))
+
+  pub sends-visit : (s now : PortState T) (out grown : List (Departure T)) (sent : ℕ) → first ≡ tick s.time s → HasSent packet first held room now out sent → (room ≤ sent) ⊎ (0 < length now.queue → now.credits < total_cost packet (take 1 now.queue)) → grown ≡ out → grown ≡ held ++ (visit packet room s).sends
+  sends-visit s now out grown sent stepped so_far ended same =
+      same ∙ so_far.sends ∙ ap (λ (d : Dequeued T). held ++ d.sends) (sym (visit-sent s now out sent stepped so_far ended))
 
   -- what was sent was at the front, in its order
   pub order-sent : (now : PortState T) (out : List (Departure T)) (sent : ℕ) → HasSent packet first held room now out sent → map (λ (d : Departure T). d.parcel) out ++ now.queue ≡ map (λ (d : Departure T). d.parcel) held ++ first.queue
@@ -86,3 +95,10 @@ module _ {T : Type 0} (packet : T → Pkt) (first : PortState T) (held : List (D
       ∙ ap (λ ps. map (λ (d : Departure T). d.parcel) held ++ (ps ++ now.queue)) (parcels-sends_from packet first.time (take sent first.queue))
       ∙ ap (λ (s : PortState T). map (λ (d : Departure T). d.parcel) held ++ (take sent first.queue ++ s.queue)) so_far.state
       ∙ ap (λ ps. map (λ (d : Departure T). d.parcel) held ++ ps) (take-append-drop sent first.queue)
+
+  pub order-visit : (s now next : PortState T) (out grown : List (Departure T)) (sent : ℕ) → first ≡ tick s.time s → HasSent packet first held room now out sent → next ≡ now → grown ≡ out → map (λ (d : Departure T). d.parcel) grown ++ next.queue ≡ map (λ (d : Departure T). d.parcel) held ++ s.queue
+  order-visit s now next out grown sent stepped so_far same same_out =
+      ap (λ (n : PortState T). map (λ (d : Departure T). d.parcel) grown ++ n.queue) same
+      ∙ ap (λ ds. map (λ (d : Departure T). d.parcel) ds ++ now.queue) same_out
+      ∙ order-sent now out sent so_far
+      ∙ ap (λ (f : PortState T). map (λ (d : Departure T). d.parcel) held ++ f.queue) stepped

@@ -1,5 +1,5 @@
 -- A port with one queue behind one token bucket (DPDK Programmer's Guide, Quality of Service Framework: hierarchical scheduler).
-use Rattle.std.specs.Prelude.{ℕ, ◌+◌, ◌/◌, ◌==◌, if◌then◌else◌, List, [], ◌∷◌, ◌++◌, length}
+use Rattle.std.specs.Prelude.{ℕ, ◌/◌, List, [], ◌∷◌, ◌++◌}
 use Rattle.credit_book.specs.Bucket.{multiples, after_periods}
 
 -- a bucket's numbers: the most credits that it holds, the credits of one period, and the period in byte times

@@ -1,7 +1,7 @@
-use Rattle.std.proofs.Common.{◌≡◌, ◌<◌, ◌≤◌, ◌⊎◌, ℕ, List, ◌+◌, ◌-◌, ◌++◌, length, sym, ap, ◌∙◌, inl, inr, length-append, arith}
+use Rattle.std.proofs.Common.{◌≡◌, ◌<◌, ◌≤◌, ◌⊎◌, ℕ, List, ◌+◌, ◌-◌, ◌++◌, length, ap, ◌∙◌, inl, inr, length-append, arith}
 use Rattle.qos_base.specs.declared.packet.Departure.{Departure}
 use Rattle.port_sched.specs.PortState.{PortState}
-use Rattle.port_sched.specs.Dequeue.{Dequeued, turn, visit}
+use Rattle.port_sched.specs.Dequeue.{turn, visit}
 use Rattle.port_sched.proofs.Turns.{GoesOn-more, GoesOn-over, GoesOn-idle}
 use Rattle.port_sched.proofs.plain.PlainSched.dequeue.Goals as goal
 use Rattle.port_sched.proofs.plain.PlainSched.dequeue.Goals.{then-loop-left-test+else-queued-gt0, else-loop-left-test}
@@ -14,7 +14,7 @@ module _ {T : Type 0} (held out : List (Departure T)) (all : List (Departure T))
       omega (arith, lengths)
 
 pub loop-left-preserved : goal.loop-left-preserved
-loop-left-preserved g c = 
+loop-left-preserved g c =
     let sent : 0 < c.visit-sent.result = omega arith in
     let count = c.visit-sent.ensures.count in
     let grew = ap length c.visit-sent.ensures.sends ∙ length-append c.loop-left.out.items (visit g.T.Parcel.packet c.loop-left.left c.loop-left.self).sends in

@@ -1,8 +1,5 @@
-use Rattle.std.proofs.Common.{◌≡◌, ◌<◌, ◌≤◌, ◌+◌, List, ◌++◌, length, map, sym, ap, ◌∙◌, inl, inr, arith}
-use Rattle.qos_base.specs.declared.packet.Departure.{Departure}
-use Rattle.port_sched.specs.PortState.{PortState}
-use Rattle.port_sched.specs.Dequeue.{Dequeued, visit}
-use Rattle.port_sched.proofs.Visits.{HasSent-more, visit-sent, length-sent, length-visit, order-sent}
+use Rattle.std.proofs.Common.{refl, ◌∙◌, inl, inr, arith}
+use Rattle.port_sched.proofs.Visits.{HasSent-more, length-sent, length-visit, state-visit, sends-visit, order-visit}
 use Rattle.port_sched.proofs.plain.PlainSched.visit.Goals as goal
 
 pub send_front-requires-clause-space : goal.send_front-requires-clause-space
@@ -19,43 +16,32 @@ loop-sent-preserved g c = record {
 
 pub returns-else-send_front-clause-state : goal.returns-else-send_front-clause-state
 returns-else-send_front-clause-state g c =
-    let made = visit-sent g.T.Parcel.packet _ _ _ c.args.self.now _ _ _ c.step_bucket.ensures c.loop-sent.invariant.so_far (inr c.if-send_front.ensures.does_not_fit) in
-    c.if-send_front.ensures.stays.0 ∙ c.loop-sent.invariant.so_far.state ∙ ap (λ (d : Dequeued g.row.T.Denot). d.state) (sym made)
+    state-visit g.T.Parcel.packet _ _ _ c.args.self.now _ _ _ _ c.step_bucket.ensures c.loop-sent.invariant.so_far (inr c.if-send_front.ensures.does_not_fit) c.if-send_front.ensures.stays.0
 
 pub returns-else-send_front-clause-sends : goal.returns-else-send_front-clause-sends
 returns-else-send_front-clause-sends g c =
-    let made = visit-sent g.T.Parcel.packet _ _ _ c.args.self.now _ _ _ c.step_bucket.ensures c.loop-sent.invariant.so_far (inr c.if-send_front.ensures.does_not_fit) in
-    c.if-send_front.ensures.stays.1 ∙ c.loop-sent.invariant.so_far.sends ∙ ap (λ (d : Dequeued g.row.T.Denot). c.args.out.now.items ++ d.sends) (sym made)
+    sends-visit g.T.Parcel.packet _ _ _ c.args.self.now _ _ _ _ c.step_bucket.ensures c.loop-sent.invariant.so_far (inr c.if-send_front.ensures.does_not_fit) c.if-send_front.ensures.stays.1
 
 pub returns-else-send_front-clause-count : goal.returns-else-send_front-clause-count
 returns-else-send_front-clause-count g c =
     length-visit g.T.Parcel.packet _ _ _ c.args.self.now _ _ _ c.step_bucket.ensures c.loop-sent.invariant.so_far (inr c.if-send_front.ensures.does_not_fit)
 
+pub returns-else-send_front-clause-order : goal.returns-else-send_front-clause-order
+returns-else-send_front-clause-order g c =
+    order-visit g.T.Parcel.packet _ _ _ c.args.self.now _ _ _ _ _ c.step_bucket.ensures c.loop-sent.invariant.so_far c.if-send_front.ensures.stays.0 c.if-send_front.ensures.stays.1
+
 pub returns-after-loop-sent-clause-state : goal.returns-after-loop-sent-clause-state
 returns-after-loop-sent-clause-state g c =
-    let made = visit-sent g.T.Parcel.packet _ _ _ c.args.self.now _ _ _ c.step_bucket.ensures c.loop-sent.invariant.so_far (inl c.loop-sent-test.false) in
-    c.loop-sent.invariant.so_far.state ∙ ap (λ (d : Dequeued g.row.T.Denot). d.state) (sym made)
+    state-visit g.T.Parcel.packet _ _ _ c.args.self.now _ _ _ _ c.step_bucket.ensures c.loop-sent.invariant.so_far (inl c.loop-sent-test.false) refl
 
 pub returns-after-loop-sent-clause-sends : goal.returns-after-loop-sent-clause-sends
 returns-after-loop-sent-clause-sends g c =
-    let made = visit-sent g.T.Parcel.packet _ _ _ c.args.self.now _ _ _ c.step_bucket.ensures c.loop-sent.invariant.so_far (inl c.loop-sent-test.false) in
-    c.loop-sent.invariant.so_far.sends ∙ ap (λ (d : Dequeued g.row.T.Denot). c.args.out.now.items ++ d.sends) (sym made)
+    sends-visit g.T.Parcel.packet _ _ _ c.args.self.now _ _ _ _ c.step_bucket.ensures c.loop-sent.invariant.so_far (inl c.loop-sent-test.false) refl
 
 pub returns-after-loop-sent-clause-count : goal.returns-after-loop-sent-clause-count
 returns-after-loop-sent-clause-count g c =
     length-visit g.T.Parcel.packet _ _ _ c.args.self.now _ _ _ c.step_bucket.ensures c.loop-sent.invariant.so_far (inl c.loop-sent-test.false)
 
-abbrev parcels : {T : Type 0} → List (Departure T) → List T
-parcels out = map (λ d. d.parcel) out
-
-pub returns-else-send_front-clause-order : goal.returns-else-send_front-clause-order
-returns-else-send_front-clause-order g c =
-    ap (λ (s : PortState g.row.T.Denot). parcels c.send_front.new.out.items ++ s.queue) c.if-send_front.ensures.stays.0
-    ∙ ap (λ (out : List (Departure g.row.T.Denot)). parcels out ++ c.loop-sent.self.queue) c.if-send_front.ensures.stays.1
-    ∙ order-sent g.T.Parcel.packet _ _ _ _ _ _ c.loop-sent.invariant.so_far
-    ∙ ap (λ (s : PortState g.row.T.Denot). parcels c.args.out.now.items ++ s.queue) c.step_bucket.ensures
-
 pub returns-after-loop-sent-clause-order : goal.returns-after-loop-sent-clause-order
 returns-after-loop-sent-clause-order g c =
-    order-sent g.T.Parcel.packet _ _ _ _ _ _ c.loop-sent.invariant.so_far
-    ∙ ap (λ (s : PortState g.row.T.Denot). parcels c.args.out.now.items ++ s.queue) c.step_bucket.ensures
+    order-visit g.T.Parcel.packet _ _ _ c.args.self.now _ _ _ _ _ c.step_bucket.ensures c.loop-sent.invariant.so_far refl refl
