@@ -83,6 +83,12 @@ module _ {S : Type 0} {G : Ghosts S} where
     pub given_before : given new ≡ given old
     pub offset : next_offset new ≡ next_offset old
 
+  -- it has come to its end or to a fault, and has given no head more
+  pub record HasStopped (old new : Capture S G) : Type 0 where
+    pub stopped : IsStopped new
+    pub none_untaken : untaken new ≡ None
+    pub given_before : given new ≡ given old
+
   -- it stands at this place, and nothing else has changed
   pub record ChangesPlace (old new : Capture S G) (to : Place) : Type 0 where
     pub place : new.place ≡ to
