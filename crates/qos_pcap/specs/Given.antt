@@ -1,5 +1,5 @@
 -- What a capture that is open has given, and what it still gives.
-use Rattle.std.specs.Prelude.{◌≡◌, ℕ, ◌+◌, ◌-◌, ◌<◌, ◌≤◌, List, [], ◌∷◌, length, take, drop, Option, None, Some}
+use Rattle.std.specs.Prelude.{◌≡◌, ℕ, ◌+◌, ◌-◌, ◌^◌, ◌<◌, ◌≤◌, List, [], ◌∷◌, length, take, drop, Option, None, Some}
 use Rattle.std.specs.Option.{MatchOption}
 use Rattle.qos_io.specs.declared.source.Source.{Ghosts}
 use Rattle.qos_pcap.specs.declared.capture.Capture.{Capture}
@@ -71,6 +71,7 @@ module _ {S : Type 0} {G : Ghosts S} where
     pub index : head.index ≡ given old
     pub counted : given new ≡ given old + 1
     pub within_limit : given old < limit_of old
+    pub count_fits : given new < 2 ^ 32
     pub offset : head.offset ≡ next_offset old
     pub offset_after : next_offset new ≡ next_offset old + 16 + head.cap
     pub cap_limit : head.cap ≤ 262144
@@ -82,6 +83,12 @@ module _ {S : Type 0} {G : Ghosts S} where
     pub goes_on : IsStopped new → ⊥
     pub given_before : given new ≡ given old
     pub offset : next_offset new ≡ next_offset old
+
+  -- it has come to its end or to a fault, and has given no head more
+  pub record HasStopped (old new : Capture S G) : Type 0 where
+    pub stopped : IsStopped new
+    pub none_untaken : untaken new ≡ None
+    pub given_before : given new ≡ given old
 
   -- it stands at this place, and nothing else has changed
   pub record ChangesPlace (old new : Capture S G) (to : Place) : Type 0 where

@@ -34,11 +34,11 @@ pub struct Capture<S: Source> {
 }
 
 impl<S: Source> Capture<S> {
-    ghost use Rattle.std.specs.Prelude.{◌≡◌, ◌≢◌, ◌≤◌, ◌<◌, ◌∷◌, [], ℕ, List, length, option_map, IsSome, IsErr, IsOkAnd, IfOk, IfErr, IfSome, IfNone, OnOk, OnErr, IsErrOf};
+    ghost use Rattle.std.specs.Prelude.{◌≡◌, ◌≢◌, ◌≤◌, ◌<◌, ◌∷◌, [], ℕ, List, length, option_map, IsSome, IsErr, IsOkAnd, IfOk, IfSome, IfNone, OnOk, OnErr, IsErrOf};
     ghost use Rattle.qos_io.specs.Fault.{HasRisen};
     ghost use Rattle.qos_pcap.specs.Format.{CaptureEnd, Record, whole};
     ghost use Rattle.qos_pcap.specs.Heads.{IsHeadIn, recorded};
-    ghost use Rattle.qos_pcap.specs.Given.{StillGives, HasGiven, HasPassedBody, ChangesPlace, IsStopped, given, limit_of, next_offset, source_of, untaken};
+    ghost use Rattle.qos_pcap.specs.Given.{StillGives, HasGiven, HasPassedBody, HasStopped, ChangesPlace, IsStopped, given, limit_of, next_offset, source_of, untaken};
 
     /// A capture whose header has been read from the source.
     pub(crate) fn after_header(source: S, limit: u32) -> Self
@@ -72,11 +72,11 @@ impl<S: Source> Capture<S> {
         ensures keeps { IfOk result (λ r. IfSome r (λ head. (records : List Record) (end : CaptureEnd)
             → StillGives S.remaining self.old records end → StillGives S.remaining self.new records end)) }
 
-        ensures end_stops { IfOk result (λ r. IfNone r (IsStopped self.new)) }
+        ensures end_stops { IfOk result (λ r. IfNone r (HasStopped self.old self.new)) }
         ensures end { IfOk result (λ r. IfNone r ((records : List Record) (end : CaptureEnd)
             → StillGives S.remaining self.old records end → (records ≡ []) × (end ≡ whole))) }
 
-        ensures fault_stops { IfErr result (λ fault. IsStopped self.new) }
+        ensures fault_stops { OnErr result (HasStopped self.old self.new) }
         ensures bad_form { IsErrOf result PcapFault.BadForm → (records : List Record) (end : CaptureEnd)
             → StillGives S.remaining self.old records end → (records ≡ []) × (end ≢ whole) }
         ensures read { IsErrOf result PcapFault.Read → HasRisen (S.faults (source_of self.old)) (S.faults (source_of self.new)) }
@@ -100,7 +100,7 @@ impl<S: Source> Capture<S> {
         }
         if n < 16 || self.given == self.limit {
             self.place = Place::Stopped;
-            return Err(PcapFault::BadForm);
+            return Err(PcapFault::BadForm); // a head that is cut, or a record too many
         }
         let head = head_in(&bytes, self.given, self.offset);
         if head.cap > MAX_CAP {
@@ -124,7 +124,7 @@ impl<S: Source> Capture<S> {
             → StillGives S.remaining self.old records end
             → (rest : List Record) × (records ≡ recorded head buf.new ∷ rest) × StillGives S.remaining self.new rest end) }
 
-        ensures fault_stops { OnErr result (IsStopped self.new) }
+        ensures fault_stops { OnErr result (HasStopped self.old self.new) }
         ensures bad_form { IsErrOf result PcapFault.BadForm → (records : List Record) (end : CaptureEnd)
             → StillGives S.remaining self.old records end → (records ≡ []) × (end ≢ whole) }
         ensures read { IsErrOf result PcapFault.Read → HasRisen (S.faults (source_of self.old)) (S.faults (source_of self.new)) }
@@ -149,7 +149,7 @@ impl<S: Source> Capture<S> {
             → StillGives S.remaining self.old records end
             → (body : List ℕ) × (rest : List Record) × (records ≡ recorded head body ∷ rest) × StillGives S.remaining self.new rest end) }
 
-        ensures fault_stops { OnErr result (IsStopped self.new) }
+        ensures fault_stops { OnErr result (HasStopped self.old self.new) }
         ensures bad_form { IsErrOf result PcapFault.BadForm → (records : List Record) (end : CaptureEnd)
             → StillGives S.remaining self.old records end → (records ≡ []) × (end ≢ whole) }
         ensures read { IsErrOf result PcapFault.Read → HasRisen (S.faults (source_of self.old)) (S.faults (source_of self.new)) }
