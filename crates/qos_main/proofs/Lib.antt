@@ -7,3 +7,4 @@ pub mod Courses
 pub mod Advances
 pub mod Opens
 pub mod Outputs
+pub mod OutFiles

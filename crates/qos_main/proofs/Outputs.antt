@@ -115,10 +115,11 @@ take-output_text origin line body sends count text (inl cut) =
     (cut.n, cut.is ∙ sym (take-append-le cut.n header_text (sends_text origin line body sends) cut.part))
 take-output_text origin line body sends count text (inr (records, cut, e)) =
     let f : Departure Pkt → List ℕ = send_text origin line body in
-    let m : ℕ = length (flat_map f (take count sends)) + cut.n in
-    (length header_text + m,
-    e ∙ ap (λ (r : List ℕ). header_text ++ r) (cut.is ∙ take-flat_map f sends count cut.n cut.next cut.is_next cut.part)
-    ∙ sym (take_behind m header_text (sends_text origin line body sends)))
+    let m : ℕ = length (flat_map f (take count sends)) + cut.n in (
+      length header_text + m,
+      e ∙ ap (λ (r : List ℕ). header_text ++ r) (cut.is ∙ take-flat_map f sends count cut.n cut.next cut.is_next cut.part)
+          ∙ sym (take_behind m header_text (sends_text origin line body sends)),
+    )
 
 flat_map-same : {X : Type 0} (f g : X → List ℕ) (xs : List X) → All (λ x. f x ≡ g x) xs → flat_map f xs ≡ flat_map g xs
 flat_map-same f g [] same = refl

@@ -39,12 +39,7 @@ fn put_send<K: Sink>(
 {
     let packet = send.parcel;
     let stamp = send_stamp(origin, send.time, line);
-    put_record(
-        out,
-        stamp,
-        packet.wire,
-        bodies.get(packet.index as usize),
-    )
+    put_record(out, stamp, packet.wire, bodies.get(packet.index as usize))
 }
 
 // Writes the records of the sends, up to the first refused put.

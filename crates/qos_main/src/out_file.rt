@@ -1,0 +1,69 @@
+//! The file that a port's output is written to.
+ghost use Rattle.std.specs.Prelude.{◌≡◌, ◌≢◌, ◌≤◌, ◌↔◌, ◌⊎◌, ℕ, List, All, Some, true, false, length, IfOk};
+ghost use Rattle.qos_base.specs.Time.{IsLineRate};
+ghost use Rattle.qos_io.specs.Bytes.{HoldsPrefix};
+ghost use Rattle.qos_main.specs.Output.{output_text, kept, IsWritable};
+
+use crate::bodies::Bodies;
+use crate::output::{Written, write_output};
+use qos_base::{Departure, NoMemory, Pkt};
+use qos_io::{PutFault, Shelf};
+
+/// What became of an output file.
+#[derive(Clone, Copy, Debug, PartialEq, Eq)]
+pub struct OutFile {
+    /// How many sends' records were put whole.
+    pub written: u64,
+    /// Whether its creation, a put or its closing failed.
+    pub fault: bool,
+}
+
+/// Creates a file, writes the output of these sends to it, and closes it. After a refused put nothing more
+/// is put, and the file is closed all the same.
+///
+/// `origin` is in nanoseconds, and `line` in bytes per second.
+pub fn write_file<H: Shelf>(
+    shelf: &mut H,
+    name: &str,
+    origin: u64,
+    line: u64,
+    bodies: &Bodies,
+    sends: &[Departure<Pkt>],
+) -> Result<OutFile, NoMemory>
+    requires line { IsLineRate line }
+    requires writable { All (IsWritable bodies.now) sends.now }
+
+    ensures whole { H.Tells shelf.old → IfOk result (λ f. f.fault ≡ false → H.file shelf.new name.now ≡ Some (output_text origin line (kept bodies.now) sends.now)) }
+    ensures all { IfOk result (λ f. f.fault ≡ false → f.written ≡ length sends.now) }
+    // After a fault the file holds the first part of its text, or was not created.
+    ensures cut { H.Tells shelf.old → IfOk result (λ f. f.fault ≡ true → (f.written ≡ 0) ⊎ HoldsPrefix (output_text origin line (kept bodies.now) sends.now) (H.file shelf.new name.now)) }
+    ensures within { IfOk result (λ f. f.written ≤ length sends.now) }
+    ensures fault { IfOk result (λ f. f.fault ≡ true → H.IsSureToWrite shelf.old name.now → ⊥) }
+
+    ensures files { (n : List ℕ) → n ≢ name.now → H.file shelf.new n ≡ H.file shelf.old n }
+    ensures tells { H.Tells shelf.new ↔ H.Tells shelf.old }
+{
+    let mut out = match shelf.create_out(name) {
+        Ok(out) => out,
+        Err(PutFault::Failed) => {
+            return Ok(OutFile {
+                written: 0,
+                fault: true,
+            });
+        }
+        Err(PutFault::NoMemory) => return Err(NoMemory),
+    };
+    let written = write_output(&mut out, origin, line, bodies, sends);
+    let closed = shelf.close_out(out);
+    match (written.fault, closed) {
+        (Some(PutFault::NoMemory), _) | (_, Err(PutFault::NoMemory)) => Err(NoMemory),
+        (None, Ok(())) => Ok(OutFile {
+            written: written.count,
+            fault: false,
+        }),
+        _ => Ok(OutFile {
+            written: written.count,
+            fault: true,
+        }),
+    }
+}
