@@ -1,8 +1,8 @@
 -- What is put of an output, a send at a time.
-use Rattle.std.proofs.Common.{◌≡◌, ◌<◌, ◌≤◌, ℕ, zero, suc, ◌+◌, List, [], ◌∷◌, ◌++◌, length, take, get_or, slice_get, slice_index_or, All, IfNone, Option, Some, None, refl, sym, ap, subst, ◌∙◌, inl, inr, arith, zero-add, suc-add, length-append, option_map}
+use Rattle.std.proofs.Common.{◌≡◌, ◌<◌, ◌≤◌, ℕ, zero, suc, ◌+◌, List, [], ◌∷◌, ◌++◌, length, take, get_or, slice_get, slice_index_or, All, IfNone, Option, Some, None, refl, sym, ap, subst, ◌∙◌, inl, inr, arith, zero-add, suc-add, length-append}
 use Rattle.std.specs.List.{flat_map}
 use Rattle.std.proofs.lemmas.Bool.{cases_lt}
-use Rattle.std.proofs.lemmas.Grind.{flat_map-append, common_steps}
+use Rattle.std.proofs.lemmas.Grind.{flat_map-append}
 use Rattle.std.proofs.lemmas.List.{append_assoc, append-nil, take-append-le, take_all, take_more}
 use Rattle.std.proofs.lemmas.Option.{slice_get-get_or}
 use Rattle.qos_base.specs.declared.packet.Pkt.{Pkt}
@@ -11,7 +11,7 @@ use Rattle.qos_base.specs.Time.{send_stamp_of}
 use Rattle.qos_io.specs.Bytes.{held_after}
 use Rattle.qos_io.specs.Fault.{HasRisen}
 use Rattle.qos_pcap.specs.Written.{header_text, record_text}
-use Rattle.qos_main.specs.Output.{send_text, sends_text, output_text, kept, IsCut, IsCutInHeader, IsCutInRecord}
+use Rattle.qos_main.specs.Output.{send_text, sends_text, output_text, kept, IsCut, IsCutInRecord}
 
 -- the record of a send is made of its stamp and its kept body
 pub record_text-send : (origin line : ℕ) (bodies : List (List ℕ)) (d : Departure Pkt) (stamp : ℕ) (body : List ℕ) → stamp ≡ send_stamp_of origin d.time line → body ≡ slice_index_or bodies d.parcel.index []
@@ -115,10 +115,11 @@ take-output_text origin line body sends count text (inl cut) =
     (cut.n, cut.is ∙ sym (take-append-le cut.n header_text (sends_text origin line body sends) cut.part))
 take-output_text origin line body sends count text (inr (records, cut, e)) =
     let f : Departure Pkt → List ℕ = send_text origin line body in
-    let m : ℕ = length (flat_map f (take count sends)) + cut.n in
-    (length header_text + m,
-    e ∙ ap (λ (r : List ℕ). header_text ++ r) (cut.is ∙ take-flat_map f sends count cut.n cut.next cut.is_next cut.part)
-    ∙ sym (take_behind m header_text (sends_text origin line body sends)))
+    let m : ℕ = length (flat_map f (take count sends)) + cut.n in (
+      length header_text + m,
+      e ∙ ap (λ (r : List ℕ). header_text ++ r) (cut.is ∙ take-flat_map f sends count cut.n cut.next cut.is_next cut.part)
+          ∙ sym (take_behind m header_text (sends_text origin line body sends)),
+    )
 
 flat_map-same : {X : Type 0} (f g : X → List ℕ) (xs : List X) → All (λ x. f x ≡ g x) xs → flat_map f xs ≡ flat_map g xs
 flat_map-same f g [] same = refl
