@@ -82,7 +82,9 @@ fn write_sends<K: Sink>(
 /// that nothing more is put. What a sent packet captured is its body among `bodies`, by its place in the
 /// input.
 ///
-/// `origin` is in nanoseconds, and `line` in bytes per second.
+/// `origin` is in nanoseconds, and `line` in bytes per second. The records are stamped by [`send_stamp`].
+///
+/// `Failed`: the sink failed. `NoMemory`: the sink was refused memory.
 pub fn write_output<K: Sink>(
     out: &mut K,
     origin: u64,
