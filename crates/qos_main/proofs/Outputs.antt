@@ -1,8 +1,8 @@
 -- What is put of an output, a send at a time.
-use Rattle.std.proofs.Common.{◌≡◌, ◌<◌, ◌≤◌, ℕ, zero, suc, ◌+◌, List, [], ◌∷◌, ◌++◌, length, take, get_or, slice_get, slice_index_or, All, IfNone, Option, Some, None, refl, sym, ap, subst, ◌∙◌, inl, inr, arith, zero-add, suc-add, length-append, option_map}
+use Rattle.std.proofs.Common.{◌≡◌, ◌<◌, ◌≤◌, ℕ, zero, suc, ◌+◌, List, [], ◌∷◌, ◌++◌, length, take, get_or, slice_get, slice_index_or, All, IfNone, Option, Some, None, refl, sym, ap, subst, ◌∙◌, inl, inr, arith, zero-add, suc-add, length-append}
 use Rattle.std.specs.List.{flat_map}
 use Rattle.std.proofs.lemmas.Bool.{cases_lt}
-use Rattle.std.proofs.lemmas.Grind.{flat_map-append, common_steps}
+use Rattle.std.proofs.lemmas.Grind.{flat_map-append}
 use Rattle.std.proofs.lemmas.List.{append_assoc, append-nil, take-append-le, take_all, take_more}
 use Rattle.std.proofs.lemmas.Option.{slice_get-get_or}
 use Rattle.qos_base.specs.declared.packet.Pkt.{Pkt}
@@ -11,7 +11,7 @@ use Rattle.qos_base.specs.Time.{send_stamp_of}
 use Rattle.qos_io.specs.Bytes.{held_after}
 use Rattle.qos_io.specs.Fault.{HasRisen}
 use Rattle.qos_pcap.specs.Written.{header_text, record_text}
-use Rattle.qos_main.specs.Output.{send_text, sends_text, output_text, kept, IsCut, IsCutInHeader, IsCutInRecord}
+use Rattle.qos_main.specs.Output.{send_text, sends_text, output_text, kept, IsCut, IsCutInRecord}
 
 -- the record of a send is made of its stamp and its kept body
 pub record_text-send : (origin line : ℕ) (bodies : List (List ℕ)) (d : Departure Pkt) (stamp : ℕ) (body : List ℕ) → stamp ≡ send_stamp_of origin d.time line → body ≡ slice_index_or bodies d.parcel.index []

@@ -30,7 +30,8 @@ fn put_send<K: Sink>(
     requires line { IsLineRate line }
     requires writable { IsWritable bodies.now send.now }
     ensures added { OnOk result (K.contents out.new ≡ held_after (send_text origin line (kept bodies.now) send.now) (K.contents out.old)) }
-    ensures refused { OnErr result ((n : ℕ) × (n ≤ length (send_text origin line (kept bodies.now) send.now))
+    ensures refused { OnErr result ((n : ℕ)
+        × (n ≤ length (send_text origin line (kept bodies.now) send.now))
         × (K.contents out.new ≡ held_after (take n (send_text origin line (kept bodies.now) send.now)) (K.contents out.old))) }
     ensures failed { IsErrOf result PutFault.Failed → HasRisen (K.faults out.old) (K.faults out.new) }
     ensures name { K.name out.new ≡ K.name out.old }
@@ -53,8 +54,10 @@ fn write_sends<K: Sink>(
     requires line { IsLineRate line }
     requires writable { All (IsWritable bodies.now) sends.now }
     ensures all { IfNone result.fault (result.count ≡ length sends.now) }
-    ensures whole { IfNone result.fault (K.contents out.new ≡ held_after (sends_text origin line (kept bodies.now) sends.now) (K.contents out.old)) }
-    ensures cut { IfSome result.fault (λ fault. (records : List ℕ) × IsCutInRecord origin line (kept bodies.now) sends.now result.count records
+    ensures whole { IfNone result.fault
+        (K.contents out.new ≡ held_after (sends_text origin line (kept bodies.now) sends.now) (K.contents out.old)) }
+    ensures cut { IfSome result.fault (λ fault. (records : List ℕ)
+        × IsCutInRecord origin line (kept bodies.now) sends.now result.count records
         × (K.contents out.new ≡ held_after records (K.contents out.old))) }
     ensures within { result.count ≤ length sends.now }
     ensures failed { result.fault ≡ Some PutFault.Failed → HasRisen (K.faults out.old) (K.faults out.new) }
@@ -79,7 +82,9 @@ fn write_sends<K: Sink>(
 /// that nothing more is put. What a sent packet captured is its body among `bodies`, by its place in the
 /// input.
 ///
-/// `origin` is in nanoseconds, and `line` in bytes per second.
+/// `origin` is in nanoseconds, and `line` in bytes per second. The records are stamped by [`send_stamp`].
+///
+/// `Failed`: the sink failed. `NoMemory`: the sink was refused memory.
 pub fn write_output<K: Sink>(
     out: &mut K,
     origin: u64,
@@ -91,12 +96,15 @@ pub fn write_output<K: Sink>(
     requires writable { All (IsWritable bodies.now) sends.now }
 
     ensures all { IfNone result.fault (result.count ≡ length sends.now) }
-    ensures whole { IfNone result.fault (K.contents out.new ≡ held_after (output_text origin line (kept bodies.now) sends.now) (K.contents out.old)) }
+    ensures whole { IfNone result.fault
+        (K.contents out.new ≡ held_after (output_text origin line (kept bodies.now) sends.now) (K.contents out.old)) }
 
     // After a refused put there is exactly what was put before it, and what the sink took of it.
-    ensures cut { IfSome result.fault (λ fault. (text : List ℕ) × IsCut origin line (kept bodies.now) sends.now result.count text
+    ensures cut { IfSome result.fault (λ fault. (text : List ℕ)
+        × IsCut origin line (kept bodies.now) sends.now result.count text
         × (K.contents out.new ≡ held_after text (K.contents out.old))) }
-    ensures prefix { IfSome result.fault (λ fault. (n : ℕ) × (K.contents out.new ≡ held_after (take n (output_text origin line (kept bodies.now) sends.now)) (K.contents out.old))) }
+    ensures prefix { IfSome result.fault (λ fault. (n : ℕ)
+        × (K.contents out.new ≡ held_after (take n (output_text origin line (kept bodies.now) sends.now)) (K.contents out.old))) }
     ensures within { result.count ≤ length sends.now }
 
     ensures failed { result.fault ≡ Some PutFault.Failed → HasRisen (K.faults out.old) (K.faults out.new) }
@@ -111,4 +119,66 @@ pub fn write_output<K: Sink>(
         };
     }
     write_sends(out, origin, line, bodies, sends)
+}
+
+#[cfg(test)]
+mod tests {
+    use super::*;
+    use qos_base::Colour;
+    use qos_io::MemSink;
+    use std::alloc::Global;
+    use std::test::Fail;
+
+    // The header, and two records of 60 bytes on the line of which none was captured, at 1 and 1.5 seconds.
+    const OUTPUT: [u8; 56] = [
+        0x4d, 0x3c, 0xb2, 0xa1, 2, 0, 4, 0, 0, 0, 0, 0, 0, 0, 0, 0, 0, 0, 4, 0, 1, 0, 0, 0, //
+        1, 0, 0, 0, 0, 0, 0, 0, 0, 0, 0, 0, 60, 0, 0, 0, //
+        1, 0, 0, 0, 0x00, 0x65, 0xcd, 0x1d, 0, 0, 0, 0, 60, 0, 0, 0,
+    ];
+
+    fn send(time: u64) -> Departure<Pkt>
+        ensures { result.parcel.index ≡ 0 }
+    {
+        let parcel = Pkt {
+            input: 0,
+            index: 0,
+            wire: 60,
+            cap: 0,
+            stamp: 0,
+            port: 0,
+            subport: 0,
+            pipe: 0,
+            queue: 0,
+            colour: Colour::Green,
+        };
+        Departure { parcel, time }
+    }
+
+    // Writes two sends of one input's first record.
+    fn write_both(alloc: Global, out: &mut MemSink) -> Result<Written, Fail> {
+        let mut bodies = Bodies::new(alloc);
+        bodies.push_none()?;
+        let sends = [send(0), send(500_000)];
+        Ok(write_output(out, 1_000_000_000, 1_000_000, &bodies, &sends))
+    }
+
+    // Each record is two puts, the second of which has no byte here.
+    #[test]
+    fn an_output_is_written_up_to_a_refused_put(rt: HostRuntime) -> Result<(), Fail> {
+        for (fails, count, held) in [
+            (9, 2, 56),
+            (4, 1, 56),
+            (3, 1, 40),
+            (2, 0, 40),
+            (1, 0, 24),
+            (0, 0, 0),
+        ] {
+            let mut out = MemSink::new(rt.alloc(), vec![in rt.alloc(); fails]?);
+            let written = write_both(rt.alloc(), &mut out)?;
+            let fault = (fails < 9).then_some(PutFault::Failed);
+            assert_eq!(rt; written, Written { count, fault }, "put {fails} fails");
+            assert_eq!(rt; out.bytes(), &OUTPUT[..held], "put {fails} fails");
+        }
+        Ok(())
+    }
 }

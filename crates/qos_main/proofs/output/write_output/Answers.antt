@@ -1,4 +1,3 @@
-use Rattle.std.proofs.Common.{arith}
 use Rattle.std.proofs.lemmas.Option.{IfSome_then}
 use Rattle.qos_main.specs.Output.{kept}
 use Rattle.qos_main.proofs.Outputs.{IfNone_then, all_output, cut_header, cut_output, prefix_put}

@@ -1,4 +1,4 @@
-use Rattle.std.proofs.Common.{◌≡◌, ℕ, take}
+use Rattle.std.proofs.Common.{◌≡◌, take}
 use Rattle.qos_main.specs.Output.{sends_text, kept}
 use Rattle.qos_main.proofs.Outputs.{Puts}
 use Rattle.qos_main.proofs.output.write_sends.Given as goal
