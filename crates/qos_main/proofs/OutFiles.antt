@@ -11,10 +11,10 @@ use Rattle.qos_io.specs.Bytes.{HoldsPrefix, held_after}
 take-take : (m n : ℕ) (xs : List ℕ) → (k : ℕ) × (take m (take n xs) ≡ take k xs)
 take-take m n xs =
     ⊎_elim
-      (λ (below : m < length (take n xs)).
-        (m, sym (take-append-le m (take n xs) (drop n xs) (omega arith)) ∙ ap (take m) (take-append-drop n xs)))
-      (λ (all : length (take n xs) ≤ m). (n, take_all m (take n xs) all))
-      (cases_lt m (length (take n xs)))
+    (λ (below : m < length (take n xs)).
+    (m, sym (take-append-le m (take n xs) (drop n xs) (omega arith)) ∙ ap (take m) (take-append-drop n xs)))
+    (λ (all : length (take n xs) ≤ m). (n, take_all m (take n xs) all))
+    (cases_lt m (length (take n xs)))
 
 -- what a call says of its sink in an arm of its own
 pub at_none : {P : Type 0} (fault : Option PutFault) → fault ≡ None → IfNone fault P → P

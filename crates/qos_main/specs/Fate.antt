@@ -1,6 +1,5 @@
 -- What becomes of each record of an input, and the packets of those that are admitted.
-use Rattle.std.specs.Prelude.{ℕ, ◌+◌, Bool, true, false, nat_lt, if◌then◌else◌, List, [], ◌∷◌, map, Option, None, Some, slice_get}
-use Rattle.std.specs.Option.{unwrap_or, option_map}
+use Rattle.std.specs.Prelude.{ℕ, ◌+◌, Bool, true, false, nat_lt, if◌then◌else◌, List, [], ◌∷◌, map, Option, None, Some, slice_index_or}
 use Rattle.qos_base.specs.declared.packet.Pkt.{Pkt}
 use Rattle.qos_base.specs.declared.packet.Colour.TheVariants.{Green}
 use Rattle.qos_pcap.specs.Format.{Record}
@@ -51,7 +50,7 @@ admitted records = admitted_from 0 records
 
 -- the captured bytes of the record at a place
 abbrev pub body_at : List Record → ℕ → List ℕ
-body_at records index = unwrap_or (option_map (λ r. r.body) (slice_get records index)) []
+body_at records index = slice_index_or (map (λ r. r.body) records) index []
 
 -- the stamp of the first record
 abbrev pub first_stamp : List Record → Option ℕ

@@ -11,3 +11,4 @@ pub mod Run
 pub mod Drive
 pub mod Report
 pub mod Output
+pub mod Top

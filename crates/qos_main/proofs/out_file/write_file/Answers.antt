@@ -15,10 +15,10 @@ pub returns-in_default-clause-cut : goal.returns-in_default-clause-cut
 returns-in_default-clause-cut g c = λ told faulty.
     let now_told = c.in-Ok.ensures.tells.1 told in
     inr (holds_prefix (output_text c.args.origin c.args.line (kept c.args.bodies.now) c.args.sends.now) c.args.name.now _ _ _ (g.H.Shelf.file c.close_out-closed.new.self) c.write_output-written.result.fault c.close_out-closed.result
-      (c.write_output-written.ensures.name ∙ c.in-Ok.ensures.named) (c.in-Ok.ensures.empty told) c.write_output-written.ensures.whole c.write_output-written.ensures.prefix (c.close_out-closed.ensures.held now_told) (c.close_out-closed.ensures.refused now_told))
+    (c.write_output-written.ensures.name ∙ c.in-Ok.ensures.named) (c.in-Ok.ensures.empty told) c.write_output-written.ensures.whole c.write_output-written.ensures.prefix (c.close_out-closed.ensures.held now_told) (c.close_out-closed.ensures.refused now_told))
 
 pub returns-in_default-2-clause-cut : goal.returns-in_default-2-clause-cut
 returns-in_default-2-clause-cut g c = λ told faulty.
     let now_told = c.in-Ok.ensures.tells.1 told in
     inr (holds_prefix (output_text c.args.origin c.args.line (kept c.args.bodies.now) c.args.sends.now) c.args.name.now _ _ _ (g.H.Shelf.file c.close_out-closed.new.self) c.write_output-written.result.fault c.close_out-closed.result
-      (c.write_output-written.ensures.name ∙ c.in-Ok.ensures.named) (c.in-Ok.ensures.empty told) c.write_output-written.ensures.whole c.write_output-written.ensures.prefix (c.close_out-closed.ensures.held now_told) (c.close_out-closed.ensures.refused now_told))
+    (c.write_output-written.ensures.name ∙ c.in-Ok.ensures.named) (c.in-Ok.ensures.empty told) c.write_output-written.ensures.whole c.write_output-written.ensures.prefix (c.close_out-closed.ensures.held now_told) (c.close_out-closed.ensures.refused now_told))

@@ -1,0 +1,91 @@
+-- What a run ends with.
+use Rattle.std.specs.Prelude.{◌≡◌, ◌⊎◌, ℕ, ◌+◌, ◌≤◌, vec_capacity, Bool, true, false, List, [], ◌∷◌, ◌++◌, length, map, String, string_bytes, Option, Some, sum, count_by}
+use Rattle.std.specs.declared.alloc.Global.{Global}
+use Rattle.std.specs.List.Sorted.{IsPermutation}
+use Rattle.qos_base.specs.Time.{origin_of}
+use Rattle.qos_io.specs.Bytes.{HoldsPrefix}
+use Rattle.qos_pcap.specs.declared.fault.Stop.TheVariants.{End}
+use Rattle.qos_pcap.specs.Format.{Record}
+use Rattle.qos_main.specs.declared.top.Lists.{Lists}
+use Rattle.qos_main.specs.declared.ended.Ended.{Ended}
+use Rattle.qos_main.specs.declared.ended.PortEnd.{PortEnd}
+use Rattle.qos_main.specs.declared.ended.PortCounts.{PortCounts}
+use Rattle.qos_main.specs.declared.ended.InputEnd.{InputEnd}
+use Rattle.qos_main.specs.declared.entry.Entry.{Entry}
+use Rattle.qos_main.specs.declared.fate.Fate.TheVariants.{TooLong, Oversize}
+use Rattle.qos_main.specs.Words.{Command, command_of}
+use Rattle.qos_main.specs.Fate.{has_fate, admitted, body_at, first_stamp}
+use Rattle.qos_main.specs.Schedule.{Schedule, schedule_of, arrivals_of, dequeues_in}
+use Rattle.qos_main.specs.PortRun.{parcels}
+use Rattle.qos_main.specs.Run.{shaper_of, paced_journal}
+use Rattle.qos_main.specs.Output.{output_text}
+
+-- the command that a program's words ask for
+abbrev pub asked : List (String Global) → Option Command
+asked words = command_of (map string_bytes words)
+
+-- the origin of an input with these records
+abbrev pub origin_in : List Record → ℕ
+origin_in records = origin_of (first_stamp records ∷ [])
+
+-- the output of a journal: its sends, each with the captured bytes of its record
+abbrev pub output_of : Command → List Record → List Entry → List ℕ
+output_of command records journal =
+    output_text (origin_in records) command.line (body_at records) (schedule_of (shaper_of command) journal).sends
+
+-- the numbers of a port are those of the schedule of its journal; of its sends `written` were put whole
+pub record HasCounts (journal : List Entry) (schedule : Schedule) (written : ℕ) (counts : PortCounts) : Type 0 where
+  pub arrived : counts.arrived ≡ length (arrivals_of journal)
+  pub sent : counts.sent ≡ written
+  pub unwritten : written + counts.unwritten ≡ length schedule.sends
+  pub left : counts.left ≡ length schedule.port.queue
+  pub tailfull : counts.tailfull ≡ length schedule.drops
+  pub dequeues : counts.dequeues ≡ dequeues_in journal
+  pub time : counts.time ≡ schedule.port.time
+
+-- Each record was too long, or oversize, or its packet was sent, is left or was turned away, once; `read` is their sum.
+pub record IsAccount (records : List Record) (schedule : Schedule) (counts : PortCounts) (input : InputEnd) : Type 0 where
+  pub once : IsPermutation (admitted records) ((parcels schedule.sends ++ schedule.port.queue) ++ schedule.drops)
+  pub read : input.read ≡ length records
+  pub sent : input.sent ≡ counts.sent
+  pub left : input.left ≡ counts.left
+  pub unwritten : input.unwritten ≡ counts.unwritten
+  pub reasons : input.reasons ≡ 0 ∷ 0 ∷ count_by (has_fate Oversize) records ∷ count_by (has_fate TooLong) records ∷ 0 ∷ 0 ∷ counts.tailfull ∷ []
+  pub sum : input.read ≡ input.sent + input.left + sum input.reasons + input.unwritten
+  pub unslotted : input.unslotted ≡ []
+  pub stopped : input.stopped ≡ End
+
+-- The run of a command over these records, where `file` is what the file of its output then holds, if it is there.
+pub record IsOutcome (command : Command) (records : List Record) (file : Option (List ℕ)) (ended : Ended) : Type 0 where
+  pub port : PortEnd
+  pub input : InputEnd
+  pub fault : Bool
+  pub one_port : ended.ports ≡ port ∷ []
+  pub one_input : ended.inputs ≡ input ∷ []
+  pub one_fault : ended.write_fault ≡ fault ∷ []
+  -- the arrivals are the admitted packets of the input, each once and in order
+  pub merge : arrivals_of port.journal ≡ admitted records
+  -- the journal is the paced journal of its arrivals
+  pub pacing : port.journal ≡ paced_journal command (origin_in records) (arrivals_of port.journal)
+  pub counts : HasCounts port.journal (schedule_of (shaper_of command) port.journal) port.counts.sent port.counts
+  pub account : IsAccount records (schedule_of (shaper_of command) port.journal) port.counts input
+  -- without a write fault the output is whole
+  pub output : fault ≡ false → file ≡ Some (output_of command records port.journal)
+  pub all_sent : fault ≡ false → port.counts.unwritten ≡ 0
+  -- after one it is the first part of its text, or was not created
+  pub cut : fault ≡ true → (port.counts.sent ≡ 0) ⊎ HoldsPrefix (output_of command records port.journal) file
+
+-- the lists of an end, empty and with room for one place each
+pub record HasRoom (lists : Lists) : Type 0 where
+  pub ports : lists.ports.items ≡ []
+  pub ports_room : 1 ≤ vec_capacity lists.ports
+  pub inputs : lists.inputs.items ≡ []
+  pub inputs_room : 1 ≤ vec_capacity lists.inputs
+  pub write_fault : lists.write_fault.items ≡ []
+  pub write_fault_room : 1 ≤ vec_capacity lists.write_fault
+
+-- nothing was scheduled
+pub record IsEmptyEnd (ended : Ended) : Type 0 where
+  pub ports : ended.ports ≡ []
+  pub inputs : ended.inputs ≡ []
+  pub write_fault : ended.write_fault ≡ []
