@@ -3,6 +3,7 @@ pub mod Bodies
 pub mod Kept
 pub mod Fate
 pub mod Input
+pub mod Taken
 pub mod Pacer
 pub mod Schedule
 pub mod Paced

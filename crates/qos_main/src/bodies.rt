@@ -1,5 +1,5 @@
 //! The captured bytes of an input's records, one after another in one block.
-ghost use Rattle.std.specs.Prelude.{◌≡◌, ◌≢◌, ◌≤◌, ◌<◌, ◌+◌, ◌++◌, [], ◌∷◌, ℕ, List, length, take, drop, OnOk, IfErr, slice_index_or, option_map, IsErrOf};
+ghost use Rattle.std.specs.Prelude.{◌≡◌, ◌≢◌, ◌≤◌, ◌<◌, ◌+◌, ◌++◌, [], ◌∷◌, ℕ, List, length, take, drop, OnOk, IfErr, IsSome, slice_index_or, option_map, IsErrOf};
 ghost use Rattle.qos_io.specs.Fault.{HasRisen};
 ghost use Rattle.qos_pcap.specs.Format.{CaptureEnd, Record, whole};
 ghost use Rattle.qos_pcap.specs.Heads.{recorded};
@@ -97,10 +97,34 @@ impl Bodies {
         let start = self.bytes.len();
         read_body(&mut self.bytes, capture, cap)?;
         let end = self.bytes.len();
-        if self.places.push(Place { start, end }).is_err() {
-            return Err(InputFault::Memory);
-        }
+        self.places.push(Place { start, end })?;
         Ok(())
+    }
+
+    /// Passes over the body of a capture's last head, and keeps an empty body.
+    ///
+    /// `Form`: the input ends before the body does. `Read`: the source failed. `Memory`: memory was refused.
+    pub fn pass<S: Source>(&mut self, capture: &mut Capture<S>) -> Result<(), InputFault>
+        requires { IsSome (untaken capture.old) }
+
+        ensures added { OnOk result (self.new ≡ self.old ++ [] ∷ []) }
+        ensures passed { OnOk result (HasPassedBody capture.old capture.new) }
+        ensures gives { OnOk result ((head : Head) (records : List Record) (end : CaptureEnd) → untaken capture.old ≡ Some head
+            → StillGives S.remaining capture.old records end
+            → (body : List ℕ) × (rest : List Record) × (records ≡ recorded head body ∷ rest) × StillGives S.remaining capture.new rest end) }
+
+        ensures form { IsErrOf result InputFault.Form → (records : List Record) (end : CaptureEnd) → StillGives S.remaining capture.old records end → (records ≡ []) × (end ≢ whole) }
+        ensures read { IsErrOf result InputFault.Read → HasRisen (S.faults (source_of capture.old)) (S.faults (source_of capture.new)) }
+
+        ensures limit { limit_of capture.new ≡ limit_of capture.old }
+        ensures never_falls { S.faults (source_of capture.old) ≤ S.faults (source_of capture.new) }
+        ensures sure { S.IsSure (source_of capture.old) → S.IsSure (source_of capture.new) × (S.faults (source_of capture.new) ≡ S.faults (source_of capture.old)) × (IsErrOf result InputFault.Read → ⊥) }
+    {
+        match capture.skip_body() {
+            Ok(()) => self.push_none(),
+            Err(PcapFault::BadForm) => Err(InputFault::Form),
+            Err(PcapFault::Read) => Err(InputFault::Read),
+        }
     }
 }
 
