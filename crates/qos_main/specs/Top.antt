@@ -1,11 +1,14 @@
 -- What a run ends with.
-use Rattle.std.specs.Prelude.{◌≡◌, ◌⊎◌, ℕ, ◌+◌, ◌≤◌, vec_capacity, Bool, true, false, List, [], ◌∷◌, ◌++◌, length, map, String, string_bytes, Option, Some, sum, count_by}
+use Rattle.std.specs.Prelude.{◌≡◌, ◌⊎◌, ℕ, ◌+◌, ◌≤◌, vec_capacity, if◌then◌else◌, Bool, true, false, List, [], ◌∷◌, ◌++◌, length, map, String, string_bytes, Option, Some, sum, count_by}
 use Rattle.std.specs.declared.alloc.Global.{Global}
 use Rattle.std.specs.List.Sorted.{IsPermutation}
 use Rattle.qos_base.specs.Time.{origin_of}
 use Rattle.qos_io.specs.Bytes.{HoldsPrefix}
 use Rattle.qos_pcap.specs.declared.fault.Stop.TheVariants.{End}
 use Rattle.qos_pcap.specs.Format.{Record}
+use Rattle.qos_main.specs.declared.input.Input.{Input}
+use Rattle.qos_main.specs.declared.outcome.PortOutcome.{PortOutcome}
+use Rattle.qos_main.specs.declared.out_file.OutFile.{OutFile}
 use Rattle.qos_main.specs.declared.top.Lists.{Lists}
 use Rattle.qos_main.specs.declared.ended.Ended.{Ended}
 use Rattle.qos_main.specs.declared.ended.PortEnd.{PortEnd}
@@ -23,6 +26,11 @@ use Rattle.qos_main.specs.Output.{output_text}
 -- the command that a program's words ask for
 abbrev pub asked : List (String Global) → Option Command
 asked words = command_of (map string_bytes words)
+
+-- a command of these names and numbers
+abbrev pub named : List ℕ → List ℕ → ℕ → ℕ → ℕ → ℕ → Command
+named input output line size credits period =
+    record { input = input; output = output; line = line; size = size; credits = credits; period = period }
 
 -- the origin of an input with these records
 abbrev pub origin_in : List Record → ℕ
@@ -89,3 +97,40 @@ pub record IsEmptyEnd (ended : Ended) : Type 0 where
   pub ports : ended.ports ≡ []
   pub inputs : ended.inputs ≡ []
   pub write_fault : ended.write_fault ≡ []
+
+-- the numbers of a port of whose sends so many records were put whole
+pub record IsCountOf (port : PortOutcome) (written : ℕ) (counts : PortCounts) : Type 0 where
+  pub arrived : counts.arrived ≡ port.arrived
+  pub sent : counts.sent ≡ written
+  pub unwritten : written + counts.unwritten ≡ length port.sends.items
+  pub left : counts.left ≡ port.left
+  pub tailfull : counts.tailfull ≡ port.dropped
+  pub dequeues : counts.dequeues ≡ port.dequeues
+  pub time : counts.time ≡ port.time
+
+-- the numbers of an input whose packets came to these numbers of the port
+pub record IsEndOf (input : Input) (counts : PortCounts) (end : InputEnd) : Type 0 where
+  pub read : end.read ≡ input.read
+  pub sent : end.sent ≡ counts.sent
+  pub left : end.left ≡ counts.left
+  pub reasons : end.reasons ≡ 0 ∷ 0 ∷ input.oversize ∷ input.too_long ∷ 0 ∷ 0 ∷ counts.tailfull ∷ []
+  pub unwritten : end.unwritten ≡ counts.unwritten
+  pub unslotted : end.unslotted ≡ []
+  pub stopped : end.stopped ≡ End
+
+-- what was read, scheduled and written, put together
+pub record PutsTogether (input : Input) (port : PortOutcome) (file : OutFile) (ended : Ended) : Type 0 where
+  pub port_end : PortEnd
+  pub input_end : InputEnd
+  pub one_port : ended.ports ≡ port_end ∷ []
+  pub one_input : ended.inputs ≡ input_end ∷ []
+  pub one_fault : ended.write_fault ≡ file.fault ∷ []
+  pub status : ended.status ≡ (if file.fault then 5 else 0)
+  pub journal : port_end.journal ≡ port.journal.items
+  pub counts : IsCountOf port file.written port_end.counts
+  pub numbers : IsEndOf input port_end.counts input_end
+
+-- it ends with status 0 without a write fault, or with status 5 and a write fault
+abbrev pub IsDone : Ended → Type 0
+IsDone ended =
+    ((ended.status ≡ 0) × (ended.write_fault ≡ false ∷ [])) ⊎ ((ended.status ≡ 5) × (ended.write_fault ≡ true ∷ []))

@@ -1,15 +1,11 @@
 //! The call that the program makes: a command, from its words to its report.
-ghost use Rattle.std.specs.Prelude.{◌≡◌, ◌≢◌, ◌≤◌, ◌⊎◌, ◌↔◌, ℕ, List, [], ◌∷◌, Option, Some, None, true, false, map, string_bytes, IfOk, IfErr, IsErrOf};
+ghost use Rattle.std.specs.Prelude.{◌≡◌, ◌≢◌, ◌≤◌, ◌⊎◌, ◌^◌, ℕ, List, [], ◌∷◌, Some, length, IfOk, IsErr, IsErrOf};
 ghost use Rattle.qos_base.specs.Time.{IsLineRate};
 ghost use Rattle.qos_io.specs.Fault.{HasRisen};
 ghost use Rattle.qos_pcap.specs.Format.{Record};
 ghost use Rattle.qos_pcap.specs.Reads.{IsWholeCapture};
-ghost use Rattle.qos_main.specs.Words.{Command, command_of};
+ghost use Rattle.qos_main.specs.Top.{IsOutcome, IsDone, PutsTogether, IsCountOf, IsEndOf, HasRoom, asked, named};
 ghost use Rattle.qos_main.specs.Report.{Reports};
-ghost use Rattle.std.specs.Prelude.{◌+◌, ◌*◌, ◌^◌, length, vec_len};
-ghost use Rattle.qos_main.specs.declared.ended.Ended.{Ended};
-ghost use Rattle.qos_main.specs.declared.ended.PortEnd.{PortEnd};
-ghost use Rattle.qos_main.specs.declared.ended.InputEnd.{InputEnd};
 
 use crate::drive::{Shaping, drive};
 use crate::ended::{Ended, InputEnd, PortCounts, PortEnd};
@@ -32,8 +28,6 @@ struct Lists {
 }
 
 impl Lists {
-    ghost use Rattle.qos_main.specs.Top.{HasRoom};
-
     fn reserve(alloc: Global) -> Result<Lists, AllocError>
         ensures { IfOk result HasRoom }
     {
@@ -63,13 +57,7 @@ fn nothing(alloc: Global, status: u8) -> Ended
 // The numbers of a port, of whose sends so many records were put whole.
 fn counts(port: &PortOutcome, written: u64) -> PortCounts
     requires { written ≤ length port.now.sends.items }
-    ensures arrived { result.arrived ≡ port.now.arrived }
-    ensures sent { result.sent ≡ written }
-    ensures unwritten { written + result.unwritten ≡ length port.now.sends.items }
-    ensures left { result.left ≡ port.now.left }
-    ensures tailfull { result.tailfull ≡ port.now.dropped }
-    ensures dequeues { result.dequeues ≡ port.now.dequeues }
-    ensures time { result.time ≡ port.now.time }
+    ensures { IsCountOf port.now written result }
 {
     PortCounts {
         arrived: port.arrived,
@@ -84,13 +72,7 @@ fn counts(port: &PortOutcome, written: u64) -> PortCounts
 
 // The numbers of an input whose packets came to these numbers of the port.
 fn input_end(alloc: Global, input: &Input, counts: PortCounts) -> InputEnd
-    ensures read { result.read ≡ input.now.read }
-    ensures sent { result.sent ≡ counts.sent }
-    ensures left { result.left ≡ counts.left }
-    ensures reasons { result.reasons ≡ 0 ∷ 0 ∷ input.now.oversize ∷ input.now.too_long ∷ 0 ∷ 0 ∷ counts.tailfull ∷ [] }
-    ensures unwritten { result.unwritten ≡ counts.unwritten }
-    ensures unslotted { result.unslotted ≡ [] }
-    ensures stopped { result.stopped ≡ Stop.End }
+    ensures { IsEndOf input.now counts result }
 {
     InputEnd {
         read: input.read,
@@ -101,4 +83,74 @@ fn input_end(alloc: Global, input: &Input, counts: PortCounts) -> InputEnd
         unslotted: Sequence::of(Vec::new(alloc)),
         stopped: Stop::End,
     }
+}
+
+// Puts together what was read, scheduled and written.
+fn ended(alloc: Global, lists: Lists, input: &Input, port: PortOutcome, file: OutFile) -> Ended
+    requires room { HasRoom lists }
+    requires within { file.written ≤ length port.sends.items }
+    ensures { PutsTogether input.now port file result }
+{
+    let Lists {
+        mut ports,
+        mut inputs,
+        mut write_fault,
+    } = lists;
+    let counts = counts(&port, file.written);
+    inputs.push_reserved(input_end(alloc, input, counts));
+    ports.push_reserved(PortEnd {
+        journal: Sequence::of(port.journal),
+        counts,
+    });
+    write_fault.push_reserved(file.fault);
+    Ended {
+        status: if file.fault { 5 } else { 0 },
+        ports: Sequence::of(ports),
+        inputs: Sequence::of(inputs),
+        write_fault: Sequence::of(write_fault),
+    }
+}
+
+// Runs a command: the whole input is read, its packets are scheduled, and the output is written.
+fn run<H: Shelf>(alloc: Global, command: &Command<'_>, shelf: &mut H) -> Result<Ended, InputFault>
+    requires line { IsLineRate command.now.line }
+    requires size { (1 ≤ command.now.size) × (command.now.size ≤ 2 ^ 40) }
+    requires credits { (1 ≤ command.now.credits) × (command.now.credits ≤ 2 ^ 40) }
+    requires period { (1 ≤ command.now.period) × (command.now.period ≤ 2 ^ 40) }
+    requires names { command.now.input.now ≢ command.now.output.now }
+
+    ensures outcome { H.Tells shelf.old → IfOk result (λ ended. (bytes : List ℕ) → H.file shelf.old command.now.input.now ≡ Some bytes
+        → (records : List Record) × IsWholeCapture 2000000000 bytes records × IsOutcome (named command.now.input.now command.now.output.now command.now.line command.now.size command.now.credits command.now.period) records (H.file shelf.new command.now.output.now) ended) }
+    ensures done { IfOk result IsDone }
+    ensures write { IfOk result (λ ended. ended.status ≡ 5 → H.IsSureToWrite shelf.old command.now.output.now → ⊥) }
+
+    ensures read { IsErrOf result InputFault.Read → H.IsSureToRead shelf.old command.now.input.now → ⊥ }
+    ensures form { IsErrOf result InputFault.Form → H.Tells shelf.old → (bytes : List ℕ) (records : List Record) → H.file shelf.old command.now.input.now ≡ Some bytes → IsWholeCapture 2000000000 bytes records → ⊥ }
+    ensures nothing_created { (result ≡ Err InputFault.Memory → ⊥) → IsErr result → (n : List ℕ) → H.file shelf.new n ≡ H.file shelf.old n }
+    ensures files { (n : List ℕ) → n ≢ command.now.output.now → H.file shelf.new n ≡ H.file shelf.old n }
+{
+    let input = read_input(alloc, shelf, command.input)?;
+    let Ok(lists) = Lists::reserve(alloc) else {
+        return Err(InputFault::Memory);
+    };
+    let shaping = Shaping {
+        line: command.line,
+        size: command.size,
+        credits: command.credits,
+        period: command.period,
+    };
+    let Ok(port) = drive(alloc, shaping, input.origin, &input.packets) else {
+        return Err(InputFault::Memory);
+    };
+    let Ok(file) = write_file(
+        shelf,
+        command.output,
+        input.origin,
+        command.line,
+        &input.bodies,
+        &port.sends,
+    ) else {
+        return Err(InputFault::Memory);
+    };
+    Ok(ended(alloc, lists, &input, port, file))
 }
