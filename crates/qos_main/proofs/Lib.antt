@@ -8,3 +8,4 @@ pub mod Advances
 pub mod Opens
 pub mod Outputs
 pub mod OutFiles
+pub mod Outcomes
