@@ -1,4 +1,6 @@
+pub mod Adding
 pub mod Blocks
+pub mod Readings
 pub mod Schedules
 pub mod Runs
 pub mod Courses
