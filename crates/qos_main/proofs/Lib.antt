@@ -1,6 +1,8 @@
 pub mod Numbers
 pub mod Seven
+pub mod Adding
 pub mod Blocks
+pub mod Readings
 pub mod Schedules
 pub mod Runs
 pub mod Courses

@@ -2,15 +2,19 @@
 use Rattle.std.proofs.Common.{◌≡◌, ◌<◌, ◌≤◌, ◌⊎◌, ℕ, ◌+◌, Bool, true, false, cond, List, [], ◌∷◌, ◌++◌, length, map, sum, get_or, Option, Some, All, refl, sym, ap, ◌∙◌, subst, inl, inr, ⊎_elim, append_assoc, length-append, arith}
 use Rattle.std.specs.List.Sorted.{IsPermutation}
 use Rattle.std.specs.List.{count_by}
+use Rattle.std.specs.List.{slice_index_or}
+use Rattle.std.proofs.Math.ListN.{get_or-append, get_or-map}
 use Rattle.std.proofs.lemmas.List.{length-map, map-append, get_or_at}
-use Rattle.std.proofs.lemmas.List.Elements.{All-nil, All-cons, All-take, All-weaker, All-same}
+use Rattle.std.proofs.lemmas.List.Elements.{All-nil, All-cons, All-same}
 use Rattle.std.proofs.lemmas.List.Sorted.{All-permutation, length_permutation}
 use Rattle.qos_base.specs.declared.packet.Pkt.{Pkt}
 use Rattle.qos_base.specs.declared.packet.Departure.{Departure}
 use Rattle.qos_io.specs.Bytes.{HoldsPrefix}
 use Rattle.qos_pcap.specs.Format.{Record}
 use Rattle.qos_main.specs.declared.ended.Ended.{Ended}
-use Rattle.qos_main.specs.declared.ended.PortEnd.{PortEnd}
+use Rattle.qos_main.specs.declared.ended.PortCounts.{PortCounts}
+use Rattle.qos_main.specs.declared.ended.InputEnd.{InputEnd}
+use Rattle.port_sched.specs.PortState.{Shaper}
 use Rattle.qos_main.specs.declared.entry.Entry.{Entry}
 use Rattle.qos_main.specs.declared.fate.Fate.TheVariants.{TooLong, Oversize, Admitted}
 use Rattle.qos_main.specs.declared.input.Input.{Input}
@@ -75,4 +79,98 @@ finds_bodies records = find_from [] records
 
 -- what holds of each packet that arrived holds of each that was sent
 pub All-sends : (P : Pkt → Type 0) (arrivals queue drops : List Pkt) (sends : List (Departure Pkt)) → IsPermutation arrivals ((parcels sends ++ queue) ++ drops) → All P arrivals → All (λ (d : Departure Pkt). P d.parcel) sends
-All-sends P arrivals queue drops sends account each = ?
+All-sends P arrivals queue drops sends account each =
+    let parcel : Departure Pkt → Pkt = λ d. d.parcel in
+    let all = All-permutation P arrivals ((parcels sends ++ queue) ++ drops) account each in
+    λ k d below.
+      let sent = length-map sends parcel in
+      let inner : k < length (parcels sends) = omega arith in
+      let outer : k < length (parcels sends ++ queue) = omega (arith, length-append (parcels sends) queue) in
+      let whole : k < length ((parcels sends ++ queue) ++ drops) = omega (arith, length-append (parcels sends ++ queue) drops) in
+      subst P (get_or-append (parcels sends ++ queue) drops (parcel d) k outer ∙ get_or-append (parcels sends) queue (parcel d) k inner ∙ get_or-map parcel sends k d) (all k (parcel d) whole)
+
+-- the sends of a usable input's packets can be written
+pub sends_writable : (input : Input) (shaper : Shaper) (port : PortOutcome) → IsUsable input → arrivals_of port.journal.items ≡ input.packets.items → IsOutcomeOf shaper port → All (IsWritable input.bodies) port.sends.items
+sends_writable input shaper port usable arrivals outcome =
+    let s = schedule_of shaper port.journal.items in
+    let over : (P : Pkt → Type 0) → All P input.packets.items → All (λ (d : Departure Pkt). P d.parcel) port.sends.items =
+      λ P each. All-same (λ (d : Departure Pkt). P d.parcel) port.sends.items s.sends outcome.sends
+        (All-sends P (arrivals_of port.journal.items) s.port.queue s.drops s.sends outcome.account (All-same P _ _ arrivals each)) in
+    let short = over (λ p. p.wire ≤ 1522) usable.short in
+    let there = over (λ p. p.index < length input.bodies) usable.there in
+    let within = over (λ p. length (slice_index_or input.bodies p.index []) ≤ p.wire) usable.within in
+    λ k d below.
+      let wire : (get_or port.sends.items k d).parcel.wire ≤ 1522 = short k d below in
+      let body : length (slice_index_or input.bodies (get_or port.sends.items k d).parcel.index []) ≤ (get_or port.sends.items k d).parcel.wire = within k d below in
+      record { there = there k d below; captured = omega arith; wire = body }
+
+module _ (command : Command) (records : List Record) (input : Input) (port : PortOutcome) (read : HasRead input records) (arrivals : arrivals_of port.journal.items ≡ input.packets.items) (outcome : IsOutcomeOf (shaper_of command) port) where
+  abbrev schedule_here : Schedule
+  schedule_here = schedule_of (shaper_of command) port.journal.items
+
+  -- the output with the bodies that were kept is the output with the records' own
+  text_is : output_text input.origin command.line (kept input.bodies) port.sends.items ≡ output_of command records port.journal.items
+  text_is =
+      let same : All (λ (d : Departure Pkt). FindsBody records d.parcel) schedule_here.sends =
+        All-sends (FindsBody records) (arrivals_of port.journal.items) schedule_here.port.queue schedule_here.drops schedule_here.sends outcome.account
+          (All-same (FindsBody records) _ _ (arrivals ∙ read.packets) (finds_bodies records)) in
+      ap (λ n. output_text n command.line (kept input.bodies) port.sends.items) read.origin
+      ∙ ap (λ (bs : List (List ℕ)). output_text (origin_in records) command.line (kept bs) port.sends.items) read.bodies
+      ∙ ap (output_text (origin_in records) command.line (kept (kept_bodies records))) outcome.sends
+      ∙ output_text-same (origin_in records) command.line (kept (kept_bodies records)) (body_at records) schedule_here.sends same
+
+  counts_are : (written : ℕ) (counts : PortCounts) → IsCountOf port written counts → HasCounts port.journal.items schedule_here counts.sent counts
+  counts_are written counts is = record {
+    arrived = is.arrived ∙ outcome.arrived;
+    sent = refl;
+    unwritten = ap (λ n. n + counts.unwritten) is.sent ∙ is.unwritten ∙ ap length outcome.sends;
+    left = is.left ∙ outcome.left;
+    tailfull = is.tailfull ∙ outcome.dropped;
+    dequeues = is.dequeues ∙ outcome.dequeues;
+    time = is.time ∙ outcome.time;
+  }
+
+  account_is : (written : ℕ) (counts : PortCounts) (end : InputEnd) → IsUsable input → IsCountOf port written counts → IsEndOf input counts end → IsAccount records schedule_here counts end
+  account_is written counts end usable is numbers =
+      let reasons : sum end.reasons ≡ input.oversize + input.too_long + counts.tailfull = ap sum numbers.reasons ∙ omega arith in
+      let total = length_permutation _ _ outcome.account in
+      let outer = length-append (parcels schedule_here.sends ++ schedule_here.port.queue) schedule_here.drops in
+      let inner = length-append (parcels schedule_here.sends) schedule_here.port.queue in
+      let sent = length-map schedule_here.sends (λ (d : Departure Pkt). d.parcel) in
+      let came = ap length arrivals in
+      let gone = ap length outcome.sends in
+      let account = usable.account in
+      record {
+        once = subst (λ (ps : List Pkt). IsPermutation ps ((parcels schedule_here.sends ++ schedule_here.port.queue) ++ schedule_here.drops)) (arrivals ∙ read.packets) outcome.account;
+        read = numbers.read ∙ read.read;
+        sent = numbers.sent;
+        left = numbers.left;
+        unwritten = numbers.unwritten;
+        reasons = numbers.reasons ∙ ap (λ n. 0 ∷ 0 ∷ n ∷ input.too_long ∷ 0 ∷ 0 ∷ counts.tailfull ∷ []) read.oversize ∙ ap (λ n. 0 ∷ 0 ∷ count_by (has_fate Oversize) records ∷ n ∷ 0 ∷ 0 ∷ counts.tailfull ∷ []) read.too_long;
+        sum = omega (arith, numbers.read, numbers.sent, numbers.left, numbers.unwritten, is.sent, is.unwritten, is.left, is.tailfull, outcome.left, outcome.dropped);
+        unslotted = numbers.unslotted;
+        stopped = numbers.stopped;
+      }
+
+  pub outcome_is : (file : OutFile) (ended : Ended) (held : Option (List ℕ)) → IsUsable input → port.journal.items ≡ (paced_course (plan_of (shaper_of command)) (arrival_time command.line input.origin) (drain_of command.line) input.packets.items).journal → (file.fault ≡ false → held ≡ Some (output_text input.origin command.line (kept input.bodies) port.sends.items)) → (file.fault ≡ false → file.written ≡ length port.sends.items) → (file.fault ≡ true → (file.written ≡ 0) ⊎ HoldsPrefix (output_text input.origin command.line (kept input.bodies) port.sends.items) held) → PutsTogether input port file ended → IsOutcome command records held ended
+  outcome_is file ended held usable paced whole all cut put =
+      let journal : put.port_end.journal ≡ port.journal.items = put.journal in
+      let merge : arrivals_of put.port_end.journal ≡ admitted records = ap arrivals_of journal ∙ arrivals ∙ read.packets in
+      let text : output_text input.origin command.line (kept input.bodies) port.sends.items ≡ output_of command records put.port_end.journal = text_is ∙ ap (output_of command records) (sym journal) in
+      let counts = counts_are file.written put.port_end.counts put.counts in
+      let account = account_is file.written put.port_end.counts put.input_end usable put.counts put.numbers in
+      record {
+        port = put.port_end;
+        input = put.input_end;
+        fault = file.fault;
+        one_port = put.one_port;
+        one_input = put.one_input;
+        one_fault = put.one_fault;
+        merge = merge;
+        pacing = journal ∙ paced ∙ ap (λ n. paced_journal command n input.packets.items) read.origin ∙ ap (paced_journal command (origin_in records)) (read.packets ∙ sym merge);
+        counts = subst (λ (js : List Entry). HasCounts js (schedule_of (shaper_of command) js) put.port_end.counts.sent put.port_end.counts) (sym journal) counts;
+        account = subst (λ (js : List Entry). IsAccount records (schedule_of (shaper_of command) js) put.port_end.counts put.input_end) (sym journal) account;
+        output = λ fine. whole fine ∙ ap (λ (t : List ℕ). Some t) text;
+        all_sent = λ fine. let written = all fine in omega (arith, put.counts.unwritten);
+        cut = λ faulty. ⊎_elim (λ (none : file.written ≡ 0). inl (put.counts.sent ∙ none)) (λ (part : HoldsPrefix (output_text input.origin command.line (kept input.bodies) port.sends.items) held). inr (subst (λ (t : List ℕ). HoldsPrefix t held) text part)) (cut faulty);
+      }

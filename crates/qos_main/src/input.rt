@@ -3,7 +3,7 @@ ghost use Rattle.std.specs.Prelude.{◌≡◌, ◌≢◌, ◌≤◌, ◌<◌, �
 ghost use Rattle.qos_io.specs.Fault.{HasRisen};
 ghost use Rattle.qos_pcap.specs.Format.{CaptureEnd, Record, whole};
 ghost use Rattle.qos_pcap.specs.Reads.{IsWholeCapture};
-ghost use Rattle.qos_pcap.specs.Given.{StillGives, HasPassedBody, IsStopped, given, limit_of, source_of, untaken};
+ghost use Rattle.qos_pcap.specs.Given.{StillGives, HasPassedBody, given, limit_of, source_of, untaken};
 ghost use Rattle.qos_main.specs.Input.{HasRead, IsUsable};
 ghost use Rattle.qos_main.specs.Taken.{Takes};
 
@@ -126,7 +126,7 @@ impl Input {
 ///
 /// `Form`: the capture is not whole. `Read`: its source failed. `Memory`: memory was refused.
 fn read_records<S: Source>(alloc: Global, capture: &mut Capture<S>) -> Result<Input, InputFault>
-    requires fresh { (untaken capture.old ≡ None) × (given capture.old ≡ 0) × (IsStopped capture.old → ⊥) }
+    requires fresh { (untaken capture.old ≡ None) × (given capture.old ≡ 0) }
     requires limit { limit_of capture.old ≤ 2000000000 }
 
     ensures records { IfOk result (λ input. (records : List Record) (end : CaptureEnd) → StillGives S.remaining capture.old records end → HasRead input records × (end ≡ whole)) }
