@@ -83,26 +83,26 @@ All-sends P arrivals queue drops sends account each =
     let parcel : Departure Pkt → Pkt = λ d. d.parcel in
     let all = All-permutation P arrivals ((parcels sends ++ queue) ++ drops) account each in
     λ k d below.
-      let sent = length-map sends parcel in
-      let inner : k < length (parcels sends) = omega arith in
-      let outer : k < length (parcels sends ++ queue) = omega (arith, length-append (parcels sends) queue) in
-      let whole : k < length ((parcels sends ++ queue) ++ drops) = omega (arith, length-append (parcels sends ++ queue) drops) in
-      subst P (get_or-append (parcels sends ++ queue) drops (parcel d) k outer ∙ get_or-append (parcels sends) queue (parcel d) k inner ∙ get_or-map parcel sends k d) (all k (parcel d) whole)
+    let sent = length-map sends parcel in
+    let inner : k < length (parcels sends) = omega arith in
+    let outer : k < length (parcels sends ++ queue) = omega (arith, length-append (parcels sends) queue) in
+    let whole : k < length ((parcels sends ++ queue) ++ drops) = omega (arith, length-append (parcels sends ++ queue) drops) in
+    subst P (get_or-append (parcels sends ++ queue) drops (parcel d) k outer ∙ get_or-append (parcels sends) queue (parcel d) k inner ∙ get_or-map parcel sends k d) (all k (parcel d) whole)
 
 -- the sends of a usable input's packets can be written
 pub sends_writable : (input : Input) (shaper : Shaper) (port : PortOutcome) → IsUsable input → arrivals_of port.journal.items ≡ input.packets.items → IsOutcomeOf shaper port → All (IsWritable input.bodies) port.sends.items
 sends_writable input shaper port usable arrivals outcome =
     let s = schedule_of shaper port.journal.items in
     let over : (P : Pkt → Type 0) → All P input.packets.items → All (λ (d : Departure Pkt). P d.parcel) port.sends.items =
-      λ P each. All-same (λ (d : Departure Pkt). P d.parcel) port.sends.items s.sends outcome.sends
-        (All-sends P (arrivals_of port.journal.items) s.port.queue s.drops s.sends outcome.account (All-same P _ _ arrivals each)) in
+    λ P each. All-same (λ (d : Departure Pkt). P d.parcel) port.sends.items s.sends outcome.sends
+    (All-sends P (arrivals_of port.journal.items) s.port.queue s.drops s.sends outcome.account (All-same P _ _ arrivals each)) in
     let short = over (λ p. p.wire ≤ 1522) usable.short in
     let there = over (λ p. p.index < length input.bodies) usable.there in
     let within = over (λ p. length (slice_index_or input.bodies p.index []) ≤ p.wire) usable.within in
     λ k d below.
-      let wire : (get_or port.sends.items k d).parcel.wire ≤ 1522 = short k d below in
-      let body : length (slice_index_or input.bodies (get_or port.sends.items k d).parcel.index []) ≤ (get_or port.sends.items k d).parcel.wire = within k d below in
-      record { there = there k d below; captured = omega arith; wire = body }
+    let wire : (get_or port.sends.items k d).parcel.wire ≤ 1522 = short k d below in
+    let body : length (slice_index_or input.bodies (get_or port.sends.items k d).parcel.index []) ≤ (get_or port.sends.items k d).parcel.wire = within k d below in
+    record { there = there k d below; captured = omega arith; wire = body }
 
 module _ (command : Command) (records : List Record) (input : Input) (port : PortOutcome) (read : HasRead input records) (arrivals : arrivals_of port.journal.items ≡ input.packets.items) (outcome : IsOutcomeOf (shaper_of command) port) where
   abbrev schedule_here : Schedule
@@ -112,8 +112,8 @@ module _ (command : Command) (records : List Record) (input : Input) (port : Por
   text_is : output_text input.origin command.line (kept input.bodies) port.sends.items ≡ output_of command records port.journal.items
   text_is =
       let same : All (λ (d : Departure Pkt). FindsBody records d.parcel) schedule_here.sends =
-        All-sends (FindsBody records) (arrivals_of port.journal.items) schedule_here.port.queue schedule_here.drops schedule_here.sends outcome.account
-          (All-same (FindsBody records) _ _ (arrivals ∙ read.packets) (finds_bodies records)) in
+      All-sends (FindsBody records) (arrivals_of port.journal.items) schedule_here.port.queue schedule_here.drops schedule_here.sends outcome.account
+      (All-same (FindsBody records) _ _ (arrivals ∙ read.packets) (finds_bodies records)) in
       ap (λ n. output_text n command.line (kept input.bodies) port.sends.items) read.origin
       ∙ ap (λ (bs : List (List ℕ)). output_text (origin_in records) command.line (kept bs) port.sends.items) read.bodies
       ∙ ap (output_text (origin_in records) command.line (kept (kept_bodies records))) outcome.sends
