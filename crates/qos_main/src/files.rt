@@ -1,6 +1,7 @@
 //! The outside of the program: files by their names, and standard output. What they hold is not told,
 //! and any call may fail; each failure is counted.
-ghost use Rattle.std.specs.Prelude.{◌≡◌, ◌≤◌, None, Some, length, IfOk, IfSome, string_bytes};
+ghost use Rattle.std.specs.IoError.{error_kind};
+ghost use Rattle.std.specs.Prelude.{◌≡◌, ◌↔◌, ◌≤◌, None, Some, length, IfOk, IfSome, string_bytes};
 ghost use Rattle.qos_io.specs.Fault.{HasRisen};
 
 use qos_io::{Failed, PutFault, Shelf, Sink, Source};
@@ -35,6 +36,7 @@ impl<'a, R: Files<File = File> + AllocGlobal> FileShelf<'a, R> {
 
     // What an opening or a creation answers for an error.
     fn fault(&mut self, error: io::Error) -> PutFault
+        ensures memory { (result ≡ PutFault.NoMemory) ↔ (error_kind error ≡ ErrorKind.OutOfMemory) }
         ensures risen { result ≡ PutFault.Failed → HasRisen self.old.faults self.new.faults }
         ensures never_falls { self.old.faults ≤ self.new.faults }
     {
