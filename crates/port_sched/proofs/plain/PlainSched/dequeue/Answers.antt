@@ -1,7 +1,6 @@
-use Rattle.std.proofs.Common.{◌≡◌, ◌<◌, ◌≤◌, ◌⊎◌, ℕ, List, ◌+◌, ◌-◌, ◌++◌, length, ap, ◌∙◌, inl, inr, length-append, arith}
+use Rattle.std.proofs.Common.{◌≡◌, ◌<◌, ◌≤◌, ◌⊎◌, ℕ, List, ◌+◌, ◌-◌, ◌++◌, length, ◌∙◌, inl, inr, arith}
 use Rattle.qos_base.specs.declared.packet.Departure.{Departure}
-use Rattle.port_sched.specs.PortState.{PortState}
-use Rattle.port_sched.specs.Dequeue.{turn, visit}
+use Rattle.port_sched.specs.Dequeue.{visit}
 use Rattle.port_sched.proofs.Turns.{moved_to, length-grown, GoesOn-more, GoesOn-over, GoesOn-idle}
 use Rattle.port_sched.proofs.plain.PlainSched.dequeue.Goals as goal
 use Rattle.port_sched.proofs.plain.PlainSched.dequeue.Goals.{then-loop-left-test+else-queued-gt0, else-loop-left-test}
