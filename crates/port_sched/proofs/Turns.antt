@@ -1,5 +1,5 @@
 -- A turn, a visit at a time.
-use Rattle.std.proofs.Common.{◌≡◌, ◌<◌, ◌≤◌, ◌⊎◌, ℕ, zero, suc, ◌-◌, List, [], ◌++◌, length, refl, sym, ap, ◌∙◌, append_assoc, cond, eqb, ◌||◌, arith}
+use Rattle.std.proofs.Common.{◌≡◌, ◌<◌, ◌≤◌, ◌⊎◌, ℕ, zero, suc, ◌+◌, ◌-◌, max, List, [], ◌++◌, length, refl, sym, ap, ◌∙◌, append_assoc, length-append, cond, eqb, ◌||◌, arith}
 use Rattle.std.proofs.lemmas.Bool.Decides.{nat_tests}
 use Rattle.std.proofs.lemmas.List.{append-nil}
 use Rattle.qos_base.specs.declared.packet.Pkt.{Pkt}
@@ -13,6 +13,14 @@ pub record GoesOn {T : Type 0} (packet : T → Pkt) (room : ℕ) (start : PortSt
   pub enough : left ≤ visits
   pub sends : held ++ (turn packet room room start).sends ≡ out ++ (turn packet visits left now).sends
   pub state : (turn packet room room start).state ≡ (turn packet visits left now).state
+
+-- how long a vector is that has grown
+pub length-grown : {T : Type 0} (out more grown : List (Departure T)) → grown ≡ out ++ more → length grown ≡ length out + length more
+length-grown out more grown grew = ap length grew ∙ length-append out more
+
+-- where a turn starts
+abbrev pub moved_to : {T : Type 0} → ℕ → PortState T → PortState T
+moved_to now s = record s { time = max s.time now }
 
 -- what the tests of a turn choose
 both_zero : {X : Type 0} (a b : ℕ) (x y : X) → (a ≡ 0) ⊎ (b ≡ 0) → cond (eqb a 0 || eqb b 0) x y ≡ x
@@ -74,17 +82,17 @@ module _ {T : Type 0} (packet : T → Pkt) where
     GoesOn-more left sent now next out grown so_far some waits count went is grew =
         goes_on-more so_far.visits left sent now next out grown so_far.enough so_far.sends so_far.state some waits count went is grew
 
-    -- the turn is over
-    pub GoesOn-over : (left : ℕ) (now : PortState T) (out : List (Departure T)) → GoesOn packet room start held left now out → (left ≡ 0) ⊎ (length now.queue ≡ 0) → (now ≡ (turn packet room room start).state) × (out ≡ held ++ (turn packet room room start).sends)
-    GoesOn-over left now out so_far over =
+    -- The turn is over. `moved` is where it started, in the words of a dequeue.
+    pub GoesOn-over : (left : ℕ) (now moved : PortState T) (out : List (Departure T)) → GoesOn packet room start held left now out → (left ≡ 0) ⊎ (length now.queue ≡ 0) → start ≡ moved → (now ≡ (turn packet room room moved).state) × (out ≡ held ++ (turn packet room room moved).sends)
+    GoesOn-over left now moved out so_far over same =
         let last = turn-over so_far.visits left now over in (
-          sym (so_far.state ∙ ap (λ (d : Dequeued T). d.state) last),
-          sym (so_far.sends ∙ ap (λ (d : Dequeued T). out ++ d.sends) last ∙ append-nil out),
+          sym (so_far.state ∙ ap (λ (d : Dequeued T). d.state) last) ∙ ap (λ (s : PortState T). (turn packet room room s).state) same,
+          sym (so_far.sends ∙ ap (λ (d : Dequeued T). out ++ d.sends) last ∙ append-nil out) ∙ ap (λ (s : PortState T). held ++ (turn packet room room s).sends) same,
         )
 
-    pub GoesOn-idle : (left : ℕ) (now next : PortState T) (out grown : List (Departure T)) → GoesOn packet room start held left now out → 0 < left → 0 < length now.queue → length (visit packet left now).sends ≡ 0 → next ≡ (visit packet left now).state → grown ≡ out ++ (visit packet left now).sends → (next ≡ (turn packet room room start).state) × (grown ≡ held ++ (turn packet room room start).sends)
-    GoesOn-idle left now next out grown so_far some waits idle is grew =
+    pub GoesOn-idle : (left : ℕ) (now next moved : PortState T) (out grown : List (Departure T)) → GoesOn packet room start held left now out → 0 < left → 0 < length now.queue → length (visit packet left now).sends ≡ 0 → next ≡ (visit packet left now).state → grown ≡ out ++ (visit packet left now).sends → start ≡ moved → (next ≡ (turn packet room room moved).state) × (grown ≡ held ++ (turn packet room room moved).sends)
+    GoesOn-idle left now next moved out grown so_far some waits idle is grew same =
         let last = turn-idle so_far.visits left now some so_far.enough waits idle in (
-          is ∙ sym (so_far.state ∙ ap (λ (d : Dequeued T). d.state) last),
-          grew ∙ sym (so_far.sends ∙ ap (λ (d : Dequeued T). out ++ d.sends) last),
+          is ∙ sym (so_far.state ∙ ap (λ (d : Dequeued T). d.state) last) ∙ ap (λ (s : PortState T). (turn packet room room s).state) same,
+          grew ∙ sym (so_far.sends ∙ ap (λ (d : Dequeued T). out ++ d.sends) last) ∙ ap (λ (s : PortState T). held ++ (turn packet room room s).sends) same,
         )
