@@ -1,5 +1,5 @@
 -- A body written at the end of a block.
-use Rattle.std.proofs.Common.{◌≡◌, ◌≤◌, ℕ, ◌+◌, ◌-◌, List, [], ◌∷◌, ◌++◌, length, map, take, drop, refl, sym, ap, ◌∙◌, subst, length-append, length-drop, arith}
+use Rattle.std.proofs.Common.{◌≡◌, ◌≤◌, ℕ, ◌+◌, ◌-◌, List, [], ◌∷◌, ◌++◌, length, take, drop, refl, sym, ap, ◌∙◌, length-append, length-drop, arith}
 use Rattle.std.specs.List.{slice_range}
 use Rattle.std.proofs.lemmas.List.{take_at, drop_at, take_all, append-nil, length-take-le, take-append-le, take-append-drop, map-append}
 use Rattle.std.proofs.lemmas.List.Elements.{All-head, All-tail}
@@ -37,7 +37,7 @@ bodies-append block more (p ∷ places) within =
     ∙ ap (λ bs. slice_range block p.start p.end ∷ bs) (bodies-append block more places (All-tail P p places within))
 
 -- one body more at the end of the block
-pub bodies-push : (block grown : List ℕ) (places : List Place) (start end cap : ℕ) → AreWithin (length block) places → take (length block) grown ≡ block → start ≡ length block → end ≡ length block + cap → length grown ≡ length block + cap → bodies_at grown (places ++ record { start = start; end = end } ∷ []) ≡ bodies_at block places ++ drop (length block) grown ∷ []
+bodies-push : (block grown : List ℕ) (places : List Place) (start end cap : ℕ) → AreWithin (length block) places → take (length block) grown ≡ block → start ≡ length block → end ≡ length block + cap → length grown ≡ length block + cap → bodies_at grown (places ++ record { start = start; end = end } ∷ []) ≡ bodies_at block places ++ drop (length block) grown ∷ []
 bodies-push block grown places start end cap within before start_is end_is length_is =
     let body = drop (length block) grown in
     let parts : grown ≡ block ++ body = sym (take-append-drop (length block) grown) ∙ ap (λ xs. xs ++ body) before in
@@ -47,3 +47,9 @@ bodies-push block grown places start end cap within before start_is end_is lengt
     map-append (λ (p : Place). slice_range grown p.start p.end) places (record { start = start; end = end } ∷ [])
     ∙ ap (λ bs. bs ++ slice_range grown start end ∷ []) (ap (λ xs. bodies_at xs places) parts ∙ bodies-append block body places within)
     ∙ ap (λ b. bodies_at block places ++ b ∷ []) last
+
+pub bodies-kept : (block grown : List ℕ) (places more : List Place) (bodies : List (List ℕ)) (start end cap : ℕ) → AreWithin (length block) places → take (length block) grown ≡ block → start ≡ length block → end ≡ length block + cap → length grown ≡ length block + cap → more ≡ places ++ record { start = start; end = end } ∷ [] → bodies_at block places ≡ bodies → bodies_at grown more ≡ bodies ++ drop (length block) grown ∷ []
+bodies-kept block grown places more bodies start end cap within before start_is end_is length_is added view_is =
+    ap (λ (ps : List Place). bodies_at grown ps) added
+    ∙ bodies-push block grown places start end cap within before start_is end_is length_is
+    ∙ ap (λ (bs : List (List ℕ)). bs ++ drop (length block) grown ∷ []) view_is

@@ -1,8 +1,5 @@
 -- The reading of a capture, a record at a time.
-use Rattle.std.proofs.Common.{◌≡◌, ◌≢◌, ◌≤◌, ◌<◌, ℕ, ◌+◌, List, [], ◌∷◌, ◌++◌, length, Option, Some, None, refl, sym, ap, ◌∙◌, subst, inl, inr, append_assoc, length-append, arith}
-use Rattle.std.proofs.lemmas.Bool.{cases_lt}
-use Rattle.std.proofs.lemmas.List.{append-nil}
-use Rattle.qos_io.specs.Fault.{HasRisen}
+use Rattle.std.proofs.Common.{◌≡◌, ◌≢◌, ◌≤◌, ℕ, ◌+◌, List, [], ◌∷◌, ◌++◌, length, Option, None, refl, sym, ap, ◌∙◌, append_assoc, length-append, arith}
 use Rattle.qos_io.specs.declared.source.Source.{Ghosts}
 use Rattle.qos_pcap.specs.declared.head.Head.{Head}
 use Rattle.qos_pcap.specs.declared.capture.Capture.{Capture}
@@ -12,14 +9,6 @@ use Rattle.qos_main.specs.declared.input.Input.{Input}
 use Rattle.qos_main.specs.Input.{HasRead, IsUsable}
 use Rattle.qos_main.specs.Taken.{Takes}
 use Rattle.qos_main.proofs.Adding.{HasRead-more, IsUsable-more}
-
--- a rise that began later is a rise
-pub HasRisen-earlier : (a b c : ℕ) → a ≤ b → b ≤ c → HasRisen b c → HasRisen a c
-HasRisen-earlier a b c h k (inl later) = inl (omega arith)
-HasRisen-earlier a b c h k (inr last) = elim (cases_lt a b) [
-  | inl below ↦ inl (omega arith)
-  | inr same ↦ inr (omega arith)
-]
 
 module _ {S : Type 0} {G : Ghosts S} (remaining : S → Option (List ℕ)) (faults : S → ℕ) (IsSure : S → Type 0) where
   -- Where the reading of a capture has come to: what `start` gives is what the input has, and then what `now` gives.
@@ -64,14 +53,6 @@ module _ {S : Type 0} {G : Ghosts S} (remaining : S → Option (List ℕ)) (faul
           never_falls = omega (arith, so_far.never_falls, falls, falls_after);
           sure = λ is. sure_after (sure (so_far.sure is));
         }
-
-    -- nothing is left, so all was read
-    pub HasRead-whole : ((records : List Record) (end : CaptureEnd) → StillGives remaining now records end → (records ≡ []) × (end ≡ whole)) → (records : List Record) (end : CaptureEnd) → StillGives remaining start records end → HasRead input records × (end ≡ whole)
-    HasRead-whole ended records end still =
-        let s = so_far.so_far records end still in
-        let e = ended s.1 end s.3 in
-        let all : s.0 ≡ records = sym (s.2 ∙ ap (λ rs. s.0 ++ rs) e.0 ∙ append-nil s.0) in
-        (subst (λ rs. HasRead input rs) all s.4, e.1)
 
     -- what is at fault further on is at fault
     pub not_whole : (headed : Capture S G) → ((records : List Record) (end : CaptureEnd) → StillGives remaining now records end → StillGives remaining headed records end) → ((records : List Record) (end : CaptureEnd) → StillGives remaining headed records end → (records ≡ []) × (end ≢ whole)) → (records : List Record) (end : CaptureEnd) → StillGives remaining start records end → end ≢ whole

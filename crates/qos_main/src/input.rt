@@ -122,9 +122,9 @@ impl Input {
     }
 }
 
-/// Reads all records of a capture that was just opened.
-///
-/// `Form`: the capture is not whole. `Read`: its source failed. `Memory`: memory was refused.
+// Reads all records of a capture that was just opened.
+//
+// `Form`: the capture is not whole. `Read`: its source failed. `Memory`: memory was refused.
 fn read_records<S: Source>(alloc: Global, capture: &mut Capture<S>) -> Result<Input, InputFault>
     requires fresh { (untaken capture.old ≡ None) × (given capture.old ≡ 0) }
     requires limit { limit_of capture.old ≤ 2000000000 }
@@ -147,9 +147,9 @@ fn read_records<S: Source>(alloc: Global, capture: &mut Capture<S>) -> Result<In
     }
 }
 
-/// Reads a source to its end, as the capture that it has left.
-///
-/// `Form`: it is no whole capture. `Read`: it failed. `Memory`: memory was refused.
+// Reads a source to its end, as the capture that it has left.
+//
+// `Form`: it is no whole capture. `Read`: it failed. `Memory`: memory was refused.
 fn read_source<S: Source>(alloc: Global, source: S) -> Result<Input, InputFault>
     ensures records { IfOk result (λ input. (bytes : List ℕ) → S.remaining source ≡ Some bytes → (records : List Record) × IsWholeCapture 2000000000 bytes records × HasRead input records) }
     ensures usable { IfOk result IsUsable }

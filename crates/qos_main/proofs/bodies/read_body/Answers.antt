@@ -1,4 +1,4 @@
-use Rattle.std.proofs.Common.{◌≡◌, ◌≤◌, ℕ, List, ◌∷◌, ◌++◌, ◌-◌, length, take, drop, length-take, length-drop, subst, sym, ap, ◌∙◌, arith}
+use Rattle.std.proofs.Common.{◌≡◌, ◌≤◌, ℕ, List, ◌∷◌, ◌++◌, ◌-◌, length, take, drop, length-take, length-drop, sym, ap, ◌∙◌, arith}
 use borrow.Rule.Slice.PartMut.{post_of}
 use Rattle.qos_pcap.specs.Heads.{recorded}
 use Rattle.qos_main.proofs.Blocks.{drop-written}

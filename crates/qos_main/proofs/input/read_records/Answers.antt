@@ -1,4 +1,3 @@
-use Rattle.std.proofs.Common.{◌≡◌, sym, ◌∙◌}
 use Rattle.std.proofs.lemmas.Result.{err_from_is_err_and}
 use Rattle.qos_main.proofs.Readings.{Reading-more, not_whole}
 use Rattle.qos_main.proofs.input.read_records.Goals as goal

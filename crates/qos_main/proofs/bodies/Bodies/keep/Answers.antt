@@ -1,6 +1,5 @@
-use Rattle.std.proofs.Common.{◌≡◌, ◌+◌, ◌++◌, [], ◌∷◌, ℕ, List, length, drop, ap, ◌∙◌, length-drop, arith}
-use Rattle.qos_main.specs.Bodies.{bodies_at}
-use Rattle.qos_main.proofs.Blocks.{bodies-push}
+use Rattle.std.proofs.Common.{◌≡◌, ◌+◌, ℕ, List, length, drop, ◌∙◌, length-drop, arith}
+use Rattle.qos_main.proofs.Blocks.{bodies-kept}
 use Rattle.qos_main.proofs.bodies.Bodies.keep.Goals as goal
 
 pub returns-clause-kept : goal.returns-clause-kept
@@ -13,9 +12,7 @@ returns-clause-kept g c =
     let end_is : c.len-end.result ≡ length block + c.args.cap = c.len-end.ensures ∙ c.read_body.new.bytes.ok.0 ∙ longer in (
       body,
       record {
-        added = ap (bodies_at grown) c.in_ok-push.ensures.items
-            ∙ bodies-push block grown c.self.inside.places.items c.len-start.result c.len-end.result c.args.cap c.self.invariant c.in_ok-read_body.ensures.before start_is end_is longer
-            ∙ ap (λ bodies. bodies ++ body ∷ []) c.self.view_is;
+        added = bodies-kept block grown c.self.inside.places.items c.push.new.self.items c.args.self.now c.len-start.result c.len-end.result c.args.cap c.self.invariant c.in_ok-read_body.ensures.before start_is end_is longer c.in_ok-push.ensures.items c.self.view_is;
         cap_is = omega (arith, length-drop (length block) grown);
         gives = c.in_ok-read_body.ensures.body;
       },
