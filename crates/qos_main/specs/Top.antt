@@ -1,5 +1,5 @@
 -- What a run ends with.
-use Rattle.std.specs.Prelude.{◌≡◌, ◌⊎◌, ℕ, ◌+◌, ◌≤◌, vec_capacity, if◌then◌else◌, Bool, true, false, List, [], ◌∷◌, ◌++◌, length, map, String, string_bytes, Option, Some, sum, count_by}
+use Rattle.std.specs.Prelude.{◌≡◌, ◌⊎◌, ℕ, ◌+◌, ◌≤◌, vec_capacity, if◌then◌else◌, Bool, true, false, List, [], ◌∷◌, ◌++◌, length, map, String, string_bytes, Option, Some, sum, count_by, Contains}
 use Rattle.std.specs.declared.alloc.Global.{Global}
 use Rattle.std.specs.List.Sorted.{IsPermutation}
 use Rattle.qos_base.specs.Time.{origin_of}
@@ -7,6 +7,8 @@ use Rattle.qos_io.specs.Bytes.{HoldsPrefix}
 use Rattle.qos_pcap.specs.declared.fault.Stop.TheVariants.{End}
 use Rattle.qos_pcap.specs.Format.{Record}
 use Rattle.qos_main.specs.declared.input.Input.{Input}
+use Rattle.qos_main.specs.declared.input.InputFault.{InputFault}
+use Rattle.qos_main.specs.declared.input.InputFault.TheVariants.{Read, Form, Memory}
 use Rattle.qos_main.specs.declared.outcome.PortOutcome.{PortOutcome}
 use Rattle.qos_main.specs.declared.out_file.OutFile.{OutFile}
 use Rattle.qos_main.specs.declared.top.Lists.{Lists}
@@ -134,3 +136,21 @@ pub record PutsTogether (input : Input) (port : PortOutcome) (file : OutFile) (e
 abbrev pub IsDone : Ended → Type 0
 IsDone ended =
     ((ended.status ≡ 0) × (ended.write_fault ≡ false ∷ [])) ⊎ ((ended.status ≡ 5) × (ended.write_fault ≡ true ∷ []))
+
+-- the status of a command whose input was not read: 4 read, 6 capture, 7 memory
+abbrev pub fault_status : InputFault → ℕ
+fault_status Read = 4
+fault_status Form = 6
+fault_status Memory = 7
+
+-- the statuses of the program: 0, 2 usage, 4 read, 5 write, 6 capture, 7 memory
+abbrev pub IsStatus : ℕ → Type 0
+IsStatus n = Contains (0 ∷ 2 ∷ 4 ∷ 5 ∷ 6 ∷ 7 ∷ []) n
+
+-- the packets were scheduled
+abbrev pub IsRun : ℕ → Type 0
+IsRun n = (n ≡ 0) ⊎ (n ≡ 5)
+
+-- nothing was scheduled, and no output was created
+abbrev pub IsRefusal : ℕ → Type 0
+IsRefusal n = (n ≡ 2) ⊎ ((n ≡ 4) ⊎ (n ≡ 6))

@@ -1,10 +1,11 @@
 //! The call that the program makes: a command, from its words to its report.
-ghost use Rattle.std.specs.Prelude.{◌≡◌, ◌≢◌, ◌≤◌, ◌⊎◌, ◌^◌, ℕ, List, [], ◌∷◌, Some, length, IfOk, IsErr, IsErrOf};
+ghost use Rattle.std.specs.Prelude.{◌≡◌, ◌≢◌, ◌≤◌, ◌⊎◌, ◌^◌, ℕ, List, [], ◌∷◌, Some, None, false, length, IfOk, IsErr, IsErrOf};
 ghost use Rattle.qos_base.specs.Time.{IsLineRate};
 ghost use Rattle.qos_io.specs.Fault.{HasRisen};
 ghost use Rattle.qos_pcap.specs.Format.{Record};
 ghost use Rattle.qos_pcap.specs.Reads.{IsWholeCapture};
-ghost use Rattle.qos_main.specs.Top.{IsOutcome, IsDone, PutsTogether, IsCountOf, IsEndOf, HasRoom, asked, named};
+ghost use Rattle.qos_main.specs.Top.{IsOutcome, IsDone, PutsTogether, IsCountOf, IsEndOf, HasRoom, asked, named, fault_status, IsStatus, IsRun, IsRefusal, IsEmptyEnd};
+ghost use Rattle.qos_main.specs.Words.{Command as Asked};
 ghost use Rattle.qos_main.specs.Report.{Reports};
 
 use crate::drive::{Shaping, drive};
@@ -153,4 +154,108 @@ fn run<H: Shelf>(alloc: Global, command: &Command<'_>, shelf: &mut H) -> Result<
         return Err(InputFault::Memory);
     };
     Ok(ended(alloc, lists, &input, port, file))
+}
+
+// The status of a command that came to nothing.
+fn status_of(fault: InputFault) -> u8
+    ensures { result ≡ fault_status fault }
+{
+    match fault {
+        InputFault::Read => 4,
+        InputFault::Form => 6,
+        InputFault::Memory => 7,
+    }
+}
+
+// Runs the command that the words ask for, or ends with status 2 where they ask for none.
+fn run_words<H: Shelf>(alloc: Global, words: &[String], shelf: &mut H) -> Ended
+    ensures statuses { IsStatus result.status }
+
+    // Status 2 comes exactly where the words ask for no command.
+    ensures usage { asked words.now ≡ None → result.status ≡ 2 }
+    ensures command { (command : Asked) → asked words.now ≡ Some command → result.status ≢ 2 }
+
+    ensures read { (command : Asked) → asked words.now ≡ Some command → result.status ≡ 4 → H.IsSureToRead shelf.old command.input → ⊥ }
+    ensures capture { (command : Asked) → asked words.now ≡ Some command → result.status ≡ 6 → H.Tells shelf.old
+        → (bytes : List ℕ) (records : List Record) → H.file shelf.old command.input ≡ Some bytes → IsWholeCapture 2000000000 bytes records → ⊥ }
+    ensures write { (command : Asked) → asked words.now ≡ Some command → result.status ≡ 5 → H.IsSureToWrite shelf.old command.output → ⊥ }
+
+    ensures nothing { IsRefusal result.status → IsEmptyEnd result × ((n : List ℕ) → H.file shelf.new n ≡ H.file shelf.old n) }
+    ensures files { (n : List ℕ) → ((command : Asked) → asked words.now ≡ Some command → n ≢ command.output) → H.file shelf.new n ≡ H.file shelf.old n }
+
+    ensures done { IsRun result.status → IsDone result }
+    ensures outcome { (command : Asked) → asked words.now ≡ Some command → IsRun result.status → H.Tells shelf.old → (bytes : List ℕ) → H.file shelf.old command.input ≡ Some bytes
+        → (records : List Record) × IsWholeCapture 2000000000 bytes records × IsOutcome command records (H.file shelf.new command.output) result }
+{
+    let Some(command) = read_command(words) else {
+        return nothing(alloc, 2);
+    };
+    match run(alloc, &command, shelf) {
+        Ok(ended) => ended,
+        Err(fault) => nothing(alloc, status_of(fault)),
+    }
+}
+
+/// Runs the command that the program's words ask for, and reports how it ended.
+///
+/// At this stage the only command is `run IN OUT LINE SIZE CREDITS PERIOD`: the capture IN is read whole;
+/// the packets of its records that are neither too long nor oversize go through one queue of 64 behind one
+/// token bucket, paced by their stamps; what is sent is written as the capture OUT; the report goes to
+/// `said`. The runtime and the gate are not used yet. Nothing waits, and the call returns.
+///
+/// The status of the returned value is the first that holds of: 2 the words ask for no command, 7 memory
+/// was refused, 4 the input could not be opened or read, 6 it is no whole little-endian capture with
+/// nanoseconds, 5 the output or the report could not be written; else 0.
+pub fn qos_top<R: Sync, H: Shelf, K: Sink, G: Gate>(
+    _rt: &R,
+    alloc: Global,
+    words: &[String],
+    shelf: &mut H,
+    said: &mut K,
+    _gate: &G,
+) -> Ended
+    ensures statuses { IsStatus result.status }
+
+    // 2: just where the words ask for no command, or memory was refused to the report of that.
+    ensures usage { asked words.now ≡ None → (result.status ≡ 2) ⊎ (result.status ≡ 7) }
+    ensures command { (command : Asked) → asked words.now ≡ Some command → result.status ≢ 2 }
+
+    // 4: only where the name of the input is not sure to read.
+    ensures read { (command : Asked) → asked words.now ≡ Some command → result.status ≡ 4 → H.IsSureToRead shelf.old command.input → ⊥ }
+
+    // 6: only where the input is no whole capture of this form; at 0 and 5 it is one.
+    ensures capture { (command : Asked) → asked words.now ≡ Some command → result.status ≡ 6 → H.Tells shelf.old
+        → (bytes : List ℕ) (records : List Record) → H.file shelf.old command.input ≡ Some bytes → IsWholeCapture 2000000000 bytes records → ⊥ }
+
+    // 5: only where the name of the output is not sure to write, or the report failed.
+    ensures write { (command : Asked) → asked words.now ≡ Some command → result.status ≡ 5
+        → (H.IsSureToWrite shelf.old command.output → ⊥) ⊎ HasRisen (K.faults said.old) (K.faults said.new) }
+
+    // At 2, 4 and 6 nothing was created, and the lists are empty. At any status no file changes but the output's.
+    ensures nothing { IsRefusal result.status → IsEmptyEnd result × ((n : List ℕ) → H.file shelf.new n ≡ H.file shelf.old n) }
+    ensures files { (n : List ℕ) → ((command : Asked) → asked words.now ≡ Some command → n ≢ command.output) → H.file shelf.new n ≡ H.file shelf.old n }
+
+    // At 0 and 5: the journal is the paced journal of its arrivals, which are the admitted packets of the input;
+    // the output is what the journal's schedule sends; each record is accounted for.
+    ensures outcome { (command : Asked) → asked words.now ≡ Some command → IsRun result.status → H.Tells shelf.old → (bytes : List ℕ) → H.file shelf.old command.input ≡ Some bytes
+        → (records : List Record) × IsWholeCapture 2000000000 bytes records × IsOutcome command records (H.file shelf.new command.output) result }
+    ensures fine { result.status ≡ 0 → result.write_fault ≡ false ∷ [] }
+
+    // The report is the text of the status before it, or a first part of that text where its sink refused it.
+    ensures report { (status : ℕ) × Reports status (K.contents said.old) (K.contents said.new) (K.faults said.old) (K.faults said.new) result.status }
+    ensures never_falls { K.faults said.old ≤ K.faults said.new }
+
+    // A good command over a whole capture, with names and a report that do not fail, ends with 0 or for want of memory.
+    ensures complete { (command : Asked) (bytes : List ℕ) (records : List Record) → asked words.now ≡ Some command → H.Tells shelf.old → H.file shelf.old command.input ≡ Some bytes
+        → IsWholeCapture 2000000000 bytes records → H.IsSureToRead shelf.old command.input → H.IsSureToWrite shelf.old command.output
+        → (HasRisen (K.faults said.old) (K.faults said.new) → ⊥) → (result.status ≡ 0) ⊎ (result.status ≡ 7) }
+{
+    let ended = run_words(alloc, words, shelf);
+    let status = report(ended.status, said);
+    Ended {
+        status,
+        ports: ended.ports,
+        inputs: ended.inputs,
+        write_fault: ended.write_fault,
+    }
 }

@@ -1,9 +1,12 @@
-use Rattle.std.proofs.Common.{◌≡◌, ◌⊎◌, List, ℕ, Some, Ok, Err, true, false, length, All, sym, ap, ◌∙◌, subst, ⊎_elim, inl, inr, arith}
-use Rattle.std.proofs.lemmas.Grind.{common_steps}
+use Rattle.std.proofs.Common.{◌≡◌, ◌⊎◌, List, ℕ, Some, Result, Ok, Err, true, false, length, All, sym, ap, ◌∙◌, subst, ⊎_elim, inl, inr, arith}
+use Rattle.std.proofs.lemmas.Result.{err_from_is_err_and}
 use Rattle.std.proofs.lemmas.List.Elements.{All-same}
 use Rattle.qos_base.specs.declared.packet.Pkt.{Pkt}
 use Rattle.qos_base.specs.declared.packet.Departure.{Departure}
 use Rattle.qos_io.specs.Bytes.{HoldsPrefix}
+use Rattle.qos_main.specs.declared.ended.Ended.{Ended}
+use Rattle.qos_main.specs.declared.input.InputFault.{InputFault}
+use Rattle.qos_main.specs.declared.input.InputFault.TheVariants.{Form}
 use Rattle.qos_main.specs.Schedule.{arrivals_of}
 use Rattle.qos_main.specs.Paced.{paced_course}
 use Rattle.qos_main.specs.PortRun.{plan_of}
@@ -17,10 +20,14 @@ use Rattle.qos_main.proofs.top.run.Goals as goal
 pub write_file-requires-clause-writable : goal.write_file-requires-clause-writable
 write_file-requires-clause-writable g c = λ κs lives.
     All-same (IsWritable c.in_ok-input.input.bodies) _ _ c.deref-2.ensures.value
-      (sends_writable c.in_ok-input.input _ c.in-Ok-drive.port c.in_ok-input.ensures.usable (c.in-Ok-drive.ensures.arrivals ∙ c.deref.ensures.value) c.in-Ok-drive.ensures.outcome)
+    (sends_writable c.in_ok-input.input _ c.in-Ok-drive.port c.in_ok-input.ensures.usable (c.in-Ok-drive.ensures.arrivals ∙ c.deref.ensures.value) c.in-Ok-drive.ensures.outcome)
 
 pub returns-in_err-input-clause-form : goal.returns-in_err-input-clause-form
-returns-in_err-input-clause-form g c = ?
+returns-in_err-input-clause-form g c =
+    let p = err_from_is_err_and c.from_residual.result c.from_residual.ensures.1 in
+    λ is.
+    let same : c.in_err-input.field-0.0 ≡ Form = let back : Result Ended InputFault = Err c.in_err-input.field-0.0 in let told : back ≡ Err Form = rw (p.1, p.2) at is in cc in
+    c.in_err-input.ensures.form (ap (λ (fault : InputFault). Err fault) same)
 
 pub returns-clause-outcome : goal.returns-clause-outcome
 returns-clause-outcome g c = λ told bytes held.
@@ -33,10 +40,13 @@ returns-clause-outcome g c = λ told bytes held.
     let sends = c.deref-2.ensures.value in
     let text : List (Departure Pkt) → List ℕ = λ ds. output_text input.origin now.line (kept input.bodies) ds in
     let there = c.in-Ok-write_file.ensures in
-    let told_then = c.in_ok-input.ensures.tells.1 told in
-    (r.0, r.1, outcome_is command r.0 input port r.2 (c.in-Ok-drive.ensures.arrivals ∙ c.deref.ensures.value) c.in-Ok-drive.ensures.outcome file c.ended.result (g.H.Shelf.file c.write_file.new.shelf now.output.now) c.in_ok-input.ensures.usable
-      (c.in-Ok-drive.ensures.paced ∙ ap (λ ps. (paced_course (plan_of (shaper_of command)) (arrival_time now.line input.origin) (drain_of now.line) ps).journal) c.deref.ensures.value)
-      (λ fine. there.whole told_then fine ∙ ap (λ ds. Some (text ds)) sends)
-      (λ fine. there.all fine ∙ ap length sends)
-      (λ faulty. subst (λ ds. (file.written ≡ 0) ⊎ HoldsPrefix (text ds) (g.H.Shelf.file c.write_file.new.shelf now.output.now)) sends (there.cut told_then faulty))
-      c.ended.ensures)
+    let told_then = c.in_ok-input.ensures.tells.1 told in (
+      r.0,
+      r.1,
+      outcome_is command r.0 input port r.2 (c.in-Ok-drive.ensures.arrivals ∙ c.deref.ensures.value) c.in-Ok-drive.ensures.outcome file c.ended.result (g.H.Shelf.file c.write_file.new.shelf now.output.now) c.in_ok-input.ensures.usable
+          (c.in-Ok-drive.ensures.paced ∙ ap (λ ps. (paced_course (plan_of (shaper_of command)) (arrival_time now.line input.origin) (drain_of now.line) ps).journal) c.deref.ensures.value)
+          (λ fine. there.whole told_then fine ∙ ap (λ ds. Some (text ds)) sends)
+          (λ fine. there.all fine ∙ ap length sends)
+          (λ faulty. subst (λ ds. (file.written ≡ 0) ⊎ HoldsPrefix (text ds) (g.H.Shelf.file c.write_file.new.shelf now.output.now)) sends (there.cut told_then faulty))
+          c.ended.ensures,
+    )
