@@ -11,3 +11,4 @@ pub mod Opens
 pub mod Outputs
 pub mod OutFiles
 pub mod Outcomes
+pub mod Statuses
