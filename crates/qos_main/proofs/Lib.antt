@@ -12,3 +12,4 @@ pub mod Outputs
 pub mod OutFiles
 pub mod Outcomes
 pub mod Statuses
+pub mod Lives

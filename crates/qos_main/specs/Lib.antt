@@ -13,3 +13,4 @@ pub mod Drive
 pub mod Report
 pub mod Output
 pub mod Top
+pub mod Laws

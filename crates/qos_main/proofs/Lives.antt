@@ -1,0 +1,189 @@
+-- Every open course is live, an advance ends at its aim, and a course's journal only grows.
+use Rattle.std.proofs.Common.{◌≡◌, ◌<◌, ◌≤◌, ◌⊎◌, ℕ, zero, suc, ◌+◌, ◌-◌, ◌*◌, ◌/◌, ◌||◌, Bool, true, false, cond, eqb, leb, ltb, nat_lt, min, max, List, [], ◌∷◌, ◌++◌, length, take, fold, refl, sym, ap, ◌∙◌, subst, append_assoc, length-append, arith}
+use Rattle.std.proofs.lemmas.Bool.Decides.{nat_tests}
+use Rattle.std.proofs.lemmas.List.{append-nil}
+use Rattle.std.proofs.lemmas.List.Sums.{sum_by-cons, fold-append}
+use Rattle.qos_base.specs.declared.packet.Pkt.{Pkt}
+use Rattle.port_sched.specs.PortState.{PortState, tick}
+use Rattle.port_sched.specs.Dequeue.{Dequeued, cost_of, total_cost, longest_front, sends_from, visit, turn}
+use Rattle.qos_main.specs.declared.entry.Entry.{Entry}
+use Rattle.qos_main.specs.declared.entry.Entry.TheVariants.{Arrive, Dequeue}
+use Rattle.qos_main.specs.Pacer.{step_to}
+use Rattle.qos_main.specs.Schedule.{Schedule, schedule_of}
+use Rattle.qos_main.specs.Paced.{Plan, Course, stands, dequeued_at, moment_after, advance_by, advance, joined_at, arrived, open_course}
+use Rattle.qos_main.specs.Laws.{IsLive, AdvancesMoveOn, OpenJournalsGrow}
+use Rattle.qos_main.proofs.Schedules.{schedule_of-push}
+
+abbrev carried : Pkt → Pkt
+carried p = p
+
+length-sends_from : (time : ℕ) (ts : List Pkt) → length (sends_from carried time ts) ≡ length ts
+length-sends_from time [] = refl
+length-sends_from time (t ∷ ts) = ap suc (length-sends_from (time + cost_of t) ts)
+
+-- each packet costs at least its overhead
+total_cost-least : (ts : List Pkt) → 24 * length ts ≤ total_cost carried ts
+total_cost-least [] = omega arith
+total_cost-least (t ∷ ts) =
+    let rest = total_cost-least ts in
+    let head = sum_by-cons (λ x. cost_of (carried x)) t ts in
+    omega (arith, head, rest)
+
+visit-time : (room : ℕ) (s : PortState Pkt) → s.time + 24 * length (visit carried room s).sends ≤ (visit carried room s).state.time
+visit-time room s =
+    let front = take (longest_front carried (tick s.time s).credits (min room (length s.queue)) s.queue) s.queue in
+    let count = length-sends_from s.time front in
+    let least = total_cost-least front in
+    omega (arith, count, least)
+
+cond_of : {X : Type 0} (P : X → Type 0) (b : Bool) (x y : X) → (b ≡ true → P x) → (b ≡ false → P y) → P (cond b x y)
+cond_of P true x y one other = one refl
+cond_of P false x y one other = other refl
+
+-- port time has passed by each packet that was sent since t
+abbrev HasPassed : ℕ → Dequeued Pkt → Type 0
+HasPassed t d = t + 24 * length d.sends ≤ d.state.time
+
+turn-time : (visits room : ℕ) (s : PortState Pkt) → HasPassed s.time (turn carried visits room s)
+unfolding turn
+turn-time zero room s = omega arith
+turn-time (suc visits) room s =
+    let nothing : Dequeued Pkt = record { sends = []; state = s } in
+    let first = visit carried room s in
+    let rest = turn carried visits (room - length first.sends) first.state in
+    let both : Dequeued Pkt = record { sends = first.sends ++ rest.sends; state = rest.state } in
+    let at_first = visit-time room s in
+    let at_rest = turn-time visits (room - length first.sends) first.state in
+    let count = length-append first.sends rest.sends in
+    cond_of (HasPassed s.time) (eqb room 0 || eqb (length s.queue) 0) nothing (cond (eqb (length first.sends) 0) first both)
+    (λ _. omega arith)
+    (λ _. cond_of (HasPassed s.time) (eqb (length first.sends) 0) first both (λ _. at_first) (λ _. omega (arith, at_first, at_rest, count)))
+
+le_when : (m n : ℕ) → leb m n ≡ true → m ≤ n
+le_when m n is = grind (arith, nat_tests)
+
+gt_when : (m n : ℕ) → leb m n ≡ false → n < m
+gt_when m n is = grind (arith, nat_tests)
+
+ge_when : (m n : ℕ) → ltb m n ≡ false → n ≤ m
+ge_when m n is = grind (arith, nat_tests)
+
+some_when : (n : ℕ) → eqb n 0 ≡ false → 0 < n
+some_when n is = grind (arith, nat_tests)
+
+lt_when : (m n : ℕ) → ltb m n ≡ true → m < n
+lt_when m n is = grind (arith, nat_tests)
+
+module _ (plan : Plan) where
+  dequeued-live : (c : Course) (now : ℕ) → IsLive plan (dequeued_at plan now c)
+  dequeued-live c now =
+      let port = (stands plan c).port in
+      subst (λ (s : Schedule). 0 < length s.port.queue → s.went ≡ true → now < s.port.time) (sym (schedule_of-push plan.shaper c.journal (Dequeue now plan.burst)))
+      (λ waits told.
+      let passed = turn-time plan.burst plan.burst (record port { time = max port.time now }) in
+      let some = lt_when 0 (length (turn carried plan.burst plan.burst (record port { time = max port.time now })).sends) told in
+      omega (arith, passed, some))
+
+  joined-live : (p : Pkt) (c : Course) → IsLive plan (joined_at plan p c)
+  joined-live p c =
+      let there : Course = record c { journal = c.journal ++ Arrive p ∷ [] } in
+      cond_of (IsLive plan) (leb (stands plan there).port.time there.clock) (dequeued_at plan there.clock there) there
+      (λ _. dequeued-live there there.clock)
+      (λ no waits told. gt_when (stands plan there).port.time there.clock no)
+
+  fold-live : (byte_time : Pkt → ℕ) (c : Course) (ps : List Pkt) → IsLive plan c → IsLive plan (fold (λ c p. arrived plan (byte_time p) p c) c ps)
+  fold-live byte_time c [] live = live
+  fold-live byte_time c (p ∷ ps) live = fold-live byte_time (arrived plan (byte_time p) p c) ps (joined-live p (advance plan (byte_time p) c))
+
+  later : (went : Bool) (clock time step : ℕ) → (went ≡ true → clock < time) → 1 ≤ step → clock < cond went (max clock time) (clock + step)
+  later true clock time step past some = let beyond : clock < time = past refl in omega arith
+  later false clock time step past some = omega arith
+
+  next-later : (c : Course) (step : ℕ) → IsLive plan c → 1 ≤ step → 0 < length (stands plan c).port.queue → c.clock < moment_after plan step c
+  next-later c step live some waits = later (stands plan c).went c.clock (stands plan c).port.time step (λ told. live waits told) some
+
+  arrives-by : (step to times : ℕ) (c : Course) → 1 ≤ step → IsLive plan c → to - c.clock ≤ times → (advance_by plan step to times c).clock ≡ max c.clock to
+  unfolding advance_by
+  arrives-by step to zero c some live enough = omega arith
+  arrives-by step to (suc times) c some live enough =
+      let queue = length (stands plan c).port.queue in
+      let m = moment_after plan step c in
+      let at_to : Course = record c { clock = to } in
+      let more = advance_by plan step to times (dequeued_at plan m c) in
+      let IsThere : Course → Type 0 = λ d. d.clock ≡ max c.clock to in
+      cond_of IsThere (leb to c.clock) c (cond (eqb queue 0) at_to (cond (ltb to m) at_to more))
+      (λ yes. let there = le_when to c.clock yes in omega (arith, there))
+      (λ no.
+      let ahead = gt_when to c.clock no in
+      cond_of IsThere (eqb queue 0) at_to (cond (ltb to m) at_to more)
+      (λ _. omega (arith, ahead))
+      (λ waits. cond_of IsThere (ltb to m) at_to more
+      (λ _. omega (arith, ahead))
+      (λ within.
+      let in_time = ge_when to m within in
+      let on = next-later c step live some (some_when queue waits) in
+      let rest = arrives-by step to times (dequeued_at plan m c) some (dequeued-live c m) (omega (arith, enough, on)) in
+      omega (arith, ahead, in_time, rest))))
+
+  pub moves_on : AdvancesMoveOn plan
+  unfolding advance schedule_of open_course
+  moves_on = record {
+    open_is_live = λ byte_time arrivals. fold-live byte_time (record { journal = []; clock = 0 }) arrivals (λ waits told. absurd (omega arith));
+    next_is_later = next-later;
+    dequeue_is_live = dequeued-live;
+    arrives = λ c b live. arrives-by (step_to plan.quantum b c.clock) b (b - c.clock) c (omega arith) live (omega arith);
+  }
+
+  -- the journal of the second course begins with that of the first
+  abbrev Grows : Course → Course → Type 0
+  Grows c d = (rest : List Entry) × (d.journal ≡ c.journal ++ rest)
+
+  Grows-trans : (c d e : Course) → Grows c d → Grows d e → Grows c e
+  Grows-trans c d e one two = (one.0 ++ two.0, two.1 ∙ ap (λ es. es ++ two.0) one.1 ∙ append_assoc c.journal one.0 two.0)
+
+  Grows-refl : (c d : Course) → d.journal ≡ c.journal → Grows c d
+  Grows-refl c d same = ([], same ∙ sym (append-nil c.journal))
+
+  advance_by-grows : (step to times : ℕ) (c : Course) → Grows c (advance_by plan step to times c)
+  unfolding advance_by
+  advance_by-grows step to zero c = Grows-refl c c refl
+  advance_by-grows step to (suc times) c =
+      let queue = length (stands plan c).port.queue in
+      let m = moment_after plan step c in
+      let at_to : Course = record c { clock = to } in
+      let next = dequeued_at plan m c in
+      let more = advance_by plan step to times next in
+      cond_of (Grows c) (leb to c.clock) c (cond (eqb queue 0) at_to (cond (ltb to m) at_to more))
+      (λ _. Grows-refl c c refl)
+      (λ _. cond_of (Grows c) (eqb queue 0) at_to (cond (ltb to m) at_to more)
+      (λ _. Grows-refl c at_to refl)
+      (λ _. cond_of (Grows c) (ltb to m) at_to more
+      (λ _. Grows-refl c at_to refl)
+      (λ _. Grows-trans c next more (Dequeue m plan.burst ∷ [], refl) (advance_by-grows step to times next))))
+
+  joined-grows : (p : Pkt) (c : Course) → Grows c (joined_at plan p c)
+  joined-grows p c =
+      let there : Course = record c { journal = c.journal ++ Arrive p ∷ [] } in
+      let next = dequeued_at plan there.clock there in
+      cond_of (Grows c) (leb (stands plan there).port.time there.clock) next there
+      (λ _. Grows-trans c there next (Arrive p ∷ [], refl) (Dequeue there.clock plan.burst ∷ [], refl))
+      (λ _. (Arrive p ∷ [], refl))
+
+  arrived-grows : (b : ℕ) (p : Pkt) (c : Course) → Grows c (arrived plan b p c)
+  unfolding advance
+  arrived-grows b p c =
+      Grows-trans c (advance plan b c) (arrived plan b p c) (advance_by-grows (step_to plan.quantum b c.clock) b (b - c.clock) c) (joined-grows p (advance plan b c))
+
+  fold-grows : (byte_time : Pkt → ℕ) (c : Course) (ps : List Pkt) → Grows c (fold (λ c p. arrived plan (byte_time p) p c) c ps)
+  fold-grows byte_time c [] = Grows-refl c c refl
+  fold-grows byte_time c (p ∷ ps) =
+      let next = arrived plan (byte_time p) p c in
+      Grows-trans c next (fold (λ c p. arrived plan (byte_time p) p c) next ps) (arrived-grows (byte_time p) p c) (fold-grows byte_time next ps)
+
+  pub journals_grow : OpenJournalsGrow plan
+  unfolding open_course
+  journals_grow byte_time arrivals more =
+      let start : Course = record { journal = []; clock = 0 } in
+      let joined = fold-append (λ c p. arrived plan (byte_time p) p c) start arrivals more in
+      let grown = fold-grows byte_time (open_course plan byte_time arrivals) more in
+      (grown.0, ap (λ c. c.journal) joined ∙ grown.1)

@@ -1,0 +1,27 @@
+-- What holds of every advance, and of every open journal.
+use Rattle.std.specs.Prelude.{◌≡◌, ◌<◌, ◌≤◌, ℕ, ◌+◌, true, max, List, [], ◌++◌, length}
+use Rattle.qos_base.specs.declared.packet.Pkt.{Pkt}
+use Rattle.qos_main.specs.declared.entry.Entry.{Entry}
+use Rattle.qos_main.specs.Schedule.{schedule_of}
+use Rattle.qos_main.specs.Paced.{Plan, Course, stands, dequeued_at, moment_after, advance, joined_at, open_course}
+
+-- where a packet waits after a dequeue that sent something, port time is past the clock
+abbrev pub IsLive : Plan → Course → Type 0
+IsLive plan c = 0 < length (stands plan c).port.queue → (stands plan c).went ≡ true → c.clock < (stands plan c).port.time
+
+-- Each repetition of an advance moves the clock on, so that it comes to its end.
+pub record AdvancesMoveOn (plan : Plan) : Type 0 where
+  -- every open course is live, so every advance begins from a live one
+  pub open_is_live : (byte_time : Pkt → ℕ) (arrivals : List Pkt) → IsLive plan (open_course plan byte_time arrivals)
+  -- from a live one the next dequeue is later than the clock
+  pub next_is_later : (c : Course) (step : ℕ) → IsLive plan c → 1 ≤ step → 0 < length (stands plan c).port.queue → c.clock < moment_after plan step c
+  -- a dequeue that sends something leaves port time past its moment, so it leaves a live one
+  pub dequeue_is_live : (c : Course) (now : ℕ) → IsLive plan (dequeued_at plan now c)
+  -- an advance ends with the clock at its aim
+  pub arrives : (c : Course) (b : ℕ) → IsLive plan c → (advance plan b c).clock ≡ max c.clock b
+
+-- the open journal of some arrivals begins the open journal of these and more
+abbrev pub OpenJournalsGrow : Plan → Type 0
+OpenJournalsGrow plan =
+    (byte_time : Pkt → ℕ) (arrivals more : List Pkt) → (rest : List Entry)
+    × ((open_course plan byte_time (arrivals ++ more)).journal ≡ (open_course plan byte_time arrivals).journal ++ rest)
