@@ -1,12 +1,10 @@
 -- An advance, a dequeue at a time.
-use Rattle.std.proofs.Common.{◌≡◌, ◌<◌, ◌≤◌, ◌⊎◌, ℕ, zero, suc, ◌+◌, ◌-◌, ◌/◌, ◌||◌, Bool, true, false, cond, eqb, leb, ltb, max, List, [], ◌∷◌, ◌++◌, length, Option, None, Some, refl, sym, ap, ◌∙◌, subst, inl, inr, ⊎_elim, arith}
+use Rattle.std.proofs.Common.{◌≡◌, ◌<◌, ◌≤◌, ◌⊎◌, ℕ, zero, suc, ◌+◌, ◌-◌, ◌||◌, Bool, true, false, cond, eqb, leb, ltb, max, [], ◌∷◌, ◌++◌, length, None, Some, refl, sym, ap, ◌∙◌, subst, inl, inr, ⊎_elim, arith}
 use Rattle.std.proofs.lemmas.Bool.{cases_lt}
 use Rattle.std.proofs.lemmas.Bool.Decides.{nat_tests}
-use Rattle.qos_base.specs.declared.packet.Pkt.{Pkt}
-use Rattle.qos_main.specs.declared.entry.Entry.{Entry}
 use Rattle.qos_main.specs.declared.entry.Entry.TheVariants.{Dequeue}
 use Rattle.qos_main.specs.Pacer.{PacerState, step_to, aimed, next_in, next_moment}
-use Rattle.qos_main.specs.Schedule.{Schedule, schedule_of, arrivals_of}
+use Rattle.qos_main.specs.Schedule.{schedule_of, arrivals_of}
 use Rattle.qos_main.specs.Paced.{Plan, Course, stands, dequeued_at, moment_after, advance_by, advance}
 use Rattle.qos_main.specs.PortRun.{RunState, course_of, schedule, IsReady}
 use Rattle.qos_main.proofs.Schedules.{arrivals_of-dequeue}

@@ -16,14 +16,14 @@ use Rattle.qos_main.specs.declared.ended.PortCounts.{PortCounts}
 use Rattle.qos_main.specs.declared.ended.InputEnd.{InputEnd}
 use Rattle.port_sched.specs.PortState.{Shaper}
 use Rattle.qos_main.specs.declared.entry.Entry.{Entry}
-use Rattle.qos_main.specs.declared.fate.Fate.TheVariants.{TooLong, Oversize, Admitted}
+use Rattle.qos_main.specs.declared.fate.Fate.TheVariants.{Oversize, Admitted}
 use Rattle.qos_main.specs.declared.input.Input.{Input}
 use Rattle.qos_main.specs.declared.outcome.PortOutcome.{PortOutcome}
 use Rattle.qos_main.specs.declared.out_file.OutFile.{OutFile}
 use Rattle.qos_main.specs.Words.{Command}
-use Rattle.qos_main.specs.Fate.{has_fate, packet_of, admitted_from, admitted, body_at, first_stamp}
+use Rattle.qos_main.specs.Fate.{has_fate, packet_of, admitted_from, admitted, body_at}
 use Rattle.qos_main.specs.Input.{HasRead, IsUsable, kept_bodies}
-use Rattle.qos_main.specs.Schedule.{Schedule, schedule_of, arrivals_of, dequeues_in}
+use Rattle.qos_main.specs.Schedule.{Schedule, schedule_of, arrivals_of}
 use Rattle.qos_main.specs.Paced.{paced_course}
 use Rattle.qos_main.specs.PortRun.{plan_of, parcels, IsOutcomeOf}
 use Rattle.qos_main.specs.Run.{shaper_of, arrival_time, drain_of, paced_journal}

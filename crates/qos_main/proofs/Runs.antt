@@ -1,5 +1,5 @@
 -- The run of a port stays sound.
-use Rattle.std.proofs.Common.{◌≡◌, ◌<◌, ◌≤◌, ◌^◌, ℕ, ◌+◌, ◌*◌, Bool, true, false, cond, ◌↔◌, Result, Ok, Err, max, List, [], ◌∷◌, ◌++◌, length, nat_lt, refl, sym, ap, ◌∙◌, subst, ⊎_elim, append_assoc, add-zero, length-append, arith}
+use Rattle.std.proofs.Common.{◌≡◌, ◌<◌, ◌≤◌, ◌^◌, ℕ, ◌+◌, ◌*◌, Bool, true, false, cond, ◌↔◌, Result, Ok, Err, max, List, [], ◌∷◌, ◌++◌, length, nat_lt, refl, sym, ap, ◌∙◌, subst, ⊎_elim, append_assoc, length-append, arith}
 use borrow.Author.Tests.{ltb-true}
 use Rattle.std.specs.List.Sorted.{IsPermutation}
 use Rattle.std.proofs.lemmas.List.{length-map}
@@ -15,7 +15,7 @@ use Rattle.port_sched.specs.PortState.{Shaper, PortState, start_of, joined}
 use Rattle.port_sched.specs.Dequeue.{Dequeued, dequeue}
 use Rattle.qos_main.specs.declared.entry.Entry.{Entry}
 use Rattle.qos_main.specs.declared.entry.Entry.TheVariants.{Arrive, Dequeue}
-use Rattle.qos_main.specs.Schedule.{Schedule, after_entry, schedule_of, arrivals_of, dequeues_in}
+use Rattle.qos_main.specs.Schedule.{Schedule, after_entry, schedule_of, arrivals_of}
 use Rattle.qos_main.specs.Pacer.{PacerState}
 use Rattle.qos_main.specs.PortRun.{RunState, IsSound, parcels}
 use Rattle.qos_main.proofs.Schedules.{schedule_of-push, arrivals_of-dequeue, dequeues_in-dequeue, arrivals_of-arrive, dequeues_in-arrive}

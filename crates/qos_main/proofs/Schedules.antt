@@ -1,11 +1,11 @@
 -- One entry more in a journal.
-use Rattle.std.proofs.Common.{◌≡◌, ◌≤◌, ℕ, length, ◌+◌, List, [], ◌∷◌, ◌++◌, fold, refl, ap, ◌∙◌, arith}
+use Rattle.std.proofs.Common.{◌≡◌, ◌≤◌, ℕ, length, ◌+◌, List, [], ◌∷◌, ◌++◌, refl, ap, arith}
 use Rattle.std.proofs.lemmas.List.Sums.{fold-append}
 use Rattle.qos_base.specs.declared.packet.Pkt.{Pkt}
 use Rattle.port_sched.specs.PortState.{Shaper}
 use Rattle.qos_main.specs.declared.entry.Entry.{Entry}
 use Rattle.qos_main.specs.declared.entry.Entry.TheVariants.{Arrive, Dequeue}
-use Rattle.qos_main.specs.Schedule.{Schedule, begun, after_entry, schedule_of, arrivals_of, dequeues_in}
+use Rattle.qos_main.specs.Schedule.{begun, after_entry, schedule_of, arrivals_of, dequeues_in}
 
 pub schedule_of-push : (shaper : Shaper) (journal : List Entry) (entry : Entry) → schedule_of shaper (journal ++ entry ∷ []) ≡ after_entry (schedule_of shaper journal) entry
 unfolding schedule_of

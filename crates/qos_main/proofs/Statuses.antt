@@ -1,11 +1,11 @@
 -- The statuses of a run, before and after its report.
-use Rattle.std.proofs.Common.{◌≡◌, ◌<◌, ◌⊎◌, ℕ, zero, suc, ◌+◌, List, [], ◌∷◌, Option, get_or, cond, eqb, refl, sym, ap, ◌∙◌, subst, inl, inr, ⊎_elim, Contains, arith}
+use Rattle.std.proofs.Common.{◌≡◌, ◌<◌, ◌⊎◌, ℕ, zero, suc, List, [], ◌∷◌, Option, get_or, cond, eqb, refl, sym, ◌∙◌, subst, inl, inr, ⊎_elim, arith}
 use Rattle.std.proofs.lemmas.Bool.Decides.{nat_tests}
 use Rattle.qos_io.specs.Fault.{HasRisen}
 use Rattle.qos_pcap.specs.Format.{Record}
 use Rattle.qos_main.specs.declared.ended.Ended.{Ended}
 use Rattle.qos_main.specs.Words.{Command}
-use Rattle.qos_main.specs.Report.{Reports, told, failed, out_of_memory, status_after_fault}
+use Rattle.qos_main.specs.Report.{Reports, told, failed, out_of_memory}
 use Rattle.qos_main.specs.Top.{IsStatus, IsRun, IsOutcome}
 
 if-zero : (m : ℕ) (x y : ℕ) → m ≡ 0 → cond (eqb m 0) x y ≡ x

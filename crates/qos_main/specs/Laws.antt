@@ -1,9 +1,8 @@
 -- What holds of every advance, and of every open journal.
-use Rattle.std.specs.Prelude.{◌≡◌, ◌<◌, ◌≤◌, ℕ, ◌+◌, true, max, List, [], ◌++◌, length}
+use Rattle.std.specs.Prelude.{◌≡◌, ◌<◌, ◌≤◌, ℕ, true, max, List, ◌++◌, length}
 use Rattle.qos_base.specs.declared.packet.Pkt.{Pkt}
 use Rattle.qos_main.specs.declared.entry.Entry.{Entry}
-use Rattle.qos_main.specs.Schedule.{schedule_of}
-use Rattle.qos_main.specs.Paced.{Plan, Course, stands, dequeued_at, moment_after, advance, joined_at, open_course}
+use Rattle.qos_main.specs.Paced.{Plan, Course, stands, dequeued_at, moment_after, advance, open_course}
 
 -- where a packet waits after a dequeue that sent something, port time is past the clock
 abbrev pub IsLive : Plan → Course → Type 0

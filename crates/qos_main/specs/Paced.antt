@@ -1,8 +1,7 @@
 -- The paced journal of a list of arrivals.
 use Rattle.std.specs.Prelude.{ℕ, zero, suc, ◌+◌, ◌-◌, ◌==◌, nat_le, nat_lt, max, if◌then◌else◌, List, [], ◌∷◌, ◌++◌, length, fold}
 use Rattle.qos_base.specs.declared.packet.Pkt.{Pkt}
-use Rattle.qos_base.specs.Time.{byte_time_of, moment_of}
-use Rattle.port_sched.specs.PortState.{Shaper, PortState}
+use Rattle.port_sched.specs.PortState.{Shaper}
 use Rattle.qos_main.specs.declared.entry.Entry.{Entry}
 use Rattle.qos_main.specs.declared.entry.Entry.TheVariants.{Arrive, Dequeue}
 use Rattle.qos_main.specs.Pacer.{step_to}

@@ -5,7 +5,7 @@ use Rattle.qos_base.specs.Time.{byte_time_of, moment_of}
 use Rattle.port_sched.specs.PortState.{Shaper}
 use Rattle.qos_main.specs.declared.entry.Entry.{Entry}
 use Rattle.qos_main.specs.Words.{Command}
-use Rattle.qos_main.specs.Paced.{Course, paced_course}
+use Rattle.qos_main.specs.Paced.{paced_course}
 use Rattle.qos_main.specs.PortRun.{plan_of}
 
 -- the bucket that a command asks for

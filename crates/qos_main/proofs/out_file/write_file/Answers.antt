@@ -1,4 +1,4 @@
-use Rattle.std.proofs.Common.{◌≡◌, List, ℕ, Some, sym, ap, ◌∙◌, inr}
+use Rattle.std.proofs.Common.{ap, ◌∙◌, inr}
 use Rattle.qos_io.specs.Bytes.{held_after}
 use Rattle.qos_main.specs.Output.{output_text, kept}
 use Rattle.qos_main.proofs.OutFiles.{at_none, at_ok, holds_prefix}

@@ -1,5 +1,4 @@
-use Rattle.std.proofs.Common.{◌≡◌}
-use Rattle.qos_main.proofs.Statuses.{After, after_report, after_status, was_run, was_six, outcome_stays, ends_well}
+use Rattle.qos_main.proofs.Statuses.{after_report, after_status, was_run, was_six, outcome_stays, ends_well}
 use Rattle.qos_main.proofs.top.qos_top.Goals as goal
 
 pub returns-clause-statuses : goal.returns-clause-statuses

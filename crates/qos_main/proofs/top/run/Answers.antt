@@ -1,4 +1,4 @@
-use Rattle.std.proofs.Common.{◌≡◌, ◌⊎◌, List, ℕ, Some, Result, Ok, Err, true, false, length, All, sym, ap, ◌∙◌, subst, ⊎_elim, inl, inr, arith}
+use Rattle.std.proofs.Common.{◌≡◌, ◌⊎◌, List, ℕ, Some, Result, Err, length, ap, ◌∙◌, subst}
 use Rattle.std.proofs.lemmas.Result.{err_from_is_err_and}
 use Rattle.std.proofs.lemmas.List.Elements.{All-same}
 use Rattle.qos_base.specs.declared.packet.Pkt.{Pkt}
@@ -7,7 +7,6 @@ use Rattle.qos_io.specs.Bytes.{HoldsPrefix}
 use Rattle.qos_main.specs.declared.ended.Ended.{Ended}
 use Rattle.qos_main.specs.declared.input.InputFault.{InputFault}
 use Rattle.qos_main.specs.declared.input.InputFault.TheVariants.{Form}
-use Rattle.qos_main.specs.Schedule.{arrivals_of}
 use Rattle.qos_main.specs.Paced.{paced_course}
 use Rattle.qos_main.specs.PortRun.{plan_of}
 use Rattle.qos_main.specs.Run.{shaper_of, arrival_time, drain_of}

@@ -1,4 +1,4 @@
-use Rattle.std.proofs.Common.{◌≡◌, List, ℕ, Option, Some, Result, Err, refl, sym, ap, ◌∙◌, subst, arith}
+use Rattle.std.proofs.Common.{◌≡◌, Option, Some, Err, refl, sym, ap, ◌∙◌, arith}
 use Rattle.qos_main.specs.declared.input.InputFault.{InputFault}
 use Rattle.qos_main.specs.declared.input.InputFault.TheVariants.{Read, Form, Memory}
 use Rattle.qos_main.specs.Words.{Command}

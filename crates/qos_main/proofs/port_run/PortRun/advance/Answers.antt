@@ -1,7 +1,6 @@
-use Rattle.std.proofs.Common.{◌≡◌, ◌<◌, ℕ, List, [], ◌∷◌, ◌++◌, Some, true, sym, ap, ◌∙◌, subst}
+use Rattle.std.proofs.Common.{◌≡◌, ◌<◌, List, [], ◌∷◌, ◌++◌, true, sym, ap, ◌∙◌, subst}
 use Rattle.qos_main.specs.declared.entry.Entry.{Entry}
 use Rattle.qos_main.specs.declared.entry.Entry.TheVariants.{Dequeue}
-use Rattle.qos_main.specs.Pacer.{PacerState}
 use Rattle.qos_main.specs.Schedule.{schedule_of}
 use Rattle.qos_main.specs.PortRun.{RunState, schedule}
 use Rattle.qos_main.proofs.Advances.{Advancing, Advancing-start, Advancing-dequeued, dequeued, course-over}

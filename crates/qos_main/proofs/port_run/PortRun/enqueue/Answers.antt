@@ -1,11 +1,9 @@
 use Rattle.std.proofs.Common.{◌≡◌, ◌<◌, ◌+◌, List, ◌++◌, [], ◌∷◌, length, refl, sym, ap, ◌∙◌, subst, arith}
-use Rattle.std.specs.Result.{is_err}
 use Rattle.qos_main.specs.declared.entry.Entry.{Entry}
 use Rattle.qos_main.specs.declared.entry.Entry.TheVariants.{Arrive}
 use Rattle.qos_main.specs.PortRun.{RunState, IsSound}
 use mir.Val.{bool_byte}
 use Rattle.qos_main.specs.Schedule.{arrivals_of}
-use Rattle.qos_main.specs.Pacer.{PacerState}
 use Rattle.qos_main.proofs.Runs.{dropped-few, bool_byte-le, IsSound-arrived, run_after, arrive-shaper}
 use Rattle.qos_main.proofs.port_run.PortRun.enqueue.Goals as goal
 

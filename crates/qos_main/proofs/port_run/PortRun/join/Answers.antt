@@ -1,6 +1,5 @@
-use Rattle.std.proofs.Common.{◌≡◌, List, [], ◌∷◌, ◌++◌, sym, ap, ◌∙◌}
-use Rattle.qos_main.specs.declared.entry.Entry.{Entry}
-use Rattle.qos_main.specs.declared.entry.Entry.TheVariants.{Arrive, Dequeue}
+use Rattle.std.proofs.Common.{[], ◌∷◌, ◌++◌, sym, ap, ◌∙◌}
+use Rattle.qos_main.specs.declared.entry.Entry.TheVariants.{Dequeue}
 use Rattle.qos_main.specs.Pacer.{after_at}
 use Rattle.qos_main.specs.Schedule.{arrivals_of}
 use Rattle.qos_main.specs.Paced.{Course}
