@@ -3,7 +3,7 @@
 usage: bench.py PROGRAM [FRAMES]
 
 The capture and what is written lie in bench/out/. With 1,000,000 frames the capture has about 800 MB, and a run
-takes about three times as much memory. Only Python's standard library is used.
+takes about 1 GB of memory. Only Python's standard library is used.
 """
 
 import os
