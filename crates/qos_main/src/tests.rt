@@ -1,0 +1,362 @@
+//! Runs of whole commands. The expected numbers are worked by hand, from the rules of pacing, of the token
+//! bucket and of the capture format.
+mod build;
+mod faulty;
+
+use super::*;
+use crate::ended::{Ended, PortCounts};
+use build::{HEADER, Rec, capture, frame, later, records_at, sized, words_of};
+use faulty::{Fails, FaultyShelf};
+use qos_io::{MemShelf, MemSink, Shelf, Sink, Source, WholeShelf, WholeSink};
+use std::process::Abort;
+use std::test::Fail;
+
+// Runs a command; the report goes to `said`.
+fn run<R: Sync + AllocGlobal, H: Shelf>(
+    rt: &R,
+    line: &str,
+    shelf: &mut H,
+    said: &mut WholeSink,
+) -> Result<Ended, Fail> {
+    let words = words_of(rt.alloc(), line)?;
+    Ok(qos_top(rt, rt.alloc(), &words, shelf, said, &OpenGate))
+}
+
+// A shelf whose file `i` is the capture of these records.
+fn shelf_with<R: AllocGlobal>(rt: &R, records: &[Rec]) -> Result<WholeShelf, Fail> {
+    let mut shelf = WholeShelf::new(rt.alloc());
+    shelf.put_file("i", capture(rt.alloc(), records)?)?;
+    Ok(shelf)
+}
+
+// The numbers of a port: arrived, sent, left, turned away, not put, dequeues and time.
+fn counts(numbers: [u64; 7]) -> PortCounts {
+    let [arrived, sent, left, tailfull, unwritten, dequeues, time] = numbers;
+    PortCounts {
+        arrived,
+        sent,
+        left,
+        tailfull,
+        unwritten,
+        dequeues,
+        time,
+    }
+}
+
+// The run of a command that succeeds over these records comes to these numbers, and to this output.
+fn succeeds<R: Sync + AllocGlobal + Abort>(
+    rt: &R,
+    line: &str,
+    records: &[Rec],
+    numbers: [u64; 7],
+    output: &[Rec],
+) -> Result<(), Fail> {
+    let mut shelf = shelf_with(rt, records)?;
+    let mut said = WholeSink::new(rt.alloc());
+    let ended = run(rt, line, &mut shelf, &mut said)?;
+    assert_eq!(rt; ended.status, 0, "{line}");
+    assert_eq!(rt; said.bytes(), b"status 0\n".as_slice(), "{line}");
+    assert_eq!(rt; ended.write_fault.as_slice(), [false].as_slice(), "{line}");
+    let [port] = ended.ports.as_slice() else {
+        return Err(Fail::from("not one port"));
+    };
+    assert_eq!(rt; port.counts, counts(numbers), "{line}");
+    let written = capture(rt.alloc(), output)?;
+    let file = shelf.file("o").ok_or("no output")?;
+    assert_eq!(rt; file, written.as_slice(), "{line}");
+    Ok(())
+}
+
+// Half of a bucket of 2,000,000 pays for all at once: the first goes at its arrival, and the second and
+// third at the port time after it, with the first dequeue of the drain.
+//
+// Half of a bucket of 2,000 pays for eleven frames of cost 84: the first goes at its arrival, ten at 84.
+// Idle dequeues follow at 924 and at 15 more steps of 65,536 that fit into the drain of 1,000,000.
+#[test]
+fn rows_of_the_command(rt: HostRuntime) -> Result<(), Fail> {
+    let sent = records_at([0, 84, 168, 252, 336, 420, 504, 588, 672, 756, 840]);
+    for (line, times, numbers) in [
+        ("run i o 1000000000 2000000 1 1", 3, [3, 3, 0, 0, 0, 2, 252]),
+        (
+            "run i o 1000000000 2000 1 1000000000",
+            12,
+            [12, 11, 1, 0, 0, 18, 983_964],
+        ),
+        ("run i o 1000000000 2000 1 1", 0, [0, 0, 0, 0, 0, 0, 0]),
+    ] {
+        let frames = [frame(0); 12];
+        let output = sent.get(..numbers[1] as usize).ok_or("too many")?;
+        succeeds(
+            &rt,
+            line,
+            frames.get(..times).ok_or("too many")?,
+            numbers,
+            output,
+        )?;
+    }
+    Ok(())
+}
+
+// Nothing is scheduled, and no output is there.
+fn fails<R: Sync + AllocGlobal + Abort>(
+    rt: &R,
+    line: &str,
+    bytes: &[u8],
+    status: u8,
+    report: &str,
+) -> Result<(), Fail> {
+    let mut shelf = WholeShelf::new(rt.alloc());
+    shelf.put_file("i", bytes.to_vec(rt.alloc())?)?;
+    let mut said = WholeSink::new(rt.alloc());
+    let ended = run(rt, line, &mut shelf, &mut said)?;
+    assert_eq!(rt; ended.status, status, "{line}");
+    assert_eq!(rt; said.bytes(), report.as_bytes(), "{line}");
+    assert!(rt;
+        ended.ports.as_slice().is_empty() && ended.inputs.as_slice().is_empty(),
+        "{line}"
+    );
+    assert!(rt; ended.write_fault.as_slice().is_empty(), "{line}");
+    assert!(rt; shelf.file("o").is_none(), "{line}");
+    Ok(())
+}
+
+#[test]
+fn nothing_is_run(rt: HostRuntime) -> Result<(), Fail> {
+    fails(
+        &rt,
+        "run i o 1000000000 2000 1 1",
+        &[0; 24],
+        6,
+        "status 6\n",
+    )?;
+    fails(
+        &rt,
+        "run i o 999999 2000 1 1",
+        &HEADER,
+        2,
+        "usage\nstatus 2\n",
+    )
+}
+
+// No bucket ever pays for a frame: its size is below the cost of 84. Each arrival of the last row is followed
+// by a dequeue at 0, also where it is turned away. The drain of 1,000,000 has 15 steps of 65,536, up to 983,040.
+#[test]
+fn paced_runs(rt: HostRuntime) -> Result<(), Fail> {
+    // The advance to 1,000,000,000 has steps of 976,563, of which 1,023 fit.
+    let line = "run i o 1000000000 100 1 1099511627776";
+    let records = [frame(0), later(101, 0)];
+    succeeds(
+        &rt,
+        line,
+        &records,
+        [2, 0, 2, 0, 0, 1 + 1023 + 1 + 15, 1_000_983_040],
+        &[],
+    )?;
+
+    // The moment of the second is 0, where port time is 84 already: it goes in the drain.
+    let line = "run i o 1000000000 2000000 1 1";
+    let records = [frame(0), later(50, 0)];
+    succeeds(
+        &rt,
+        line,
+        &records,
+        [2, 2, 0, 0, 0, 2, 168],
+        &records_at([0, 84]),
+    )?;
+
+    // The advance to 2^50 has steps of 2^40 + 1, of which 1,023 fit.
+    let line = "run i o 1000000000 83 1 1";
+    let late = later(1_125_999, 906_842_624);
+    let time = (1u64 << 50) + 983_040;
+    succeeds(
+        &rt,
+        line,
+        &[frame(0), late],
+        [2, 0, 2, 0, 0, 1 + 1023 + 1 + 15, time],
+        &[],
+    )?;
+
+    // The first uses up half of the bucket, so a dequeue at port time 84 stands before the 1,023 steps. The
+    // second costs 224, which the bucket never holds.
+    let line = "run i o 1000000000 168 1 1";
+    let records = [frame(0), sized(200, 200), late];
+    let numbers = [3, 1, 2, 0, 0, 1 + 1024 + 1 + 15, time];
+    succeeds(&rt, line, &records, numbers, &[frame(0)])?;
+
+    let line = "run i o 1000000000 83 1 1";
+    succeeds(
+        &rt,
+        line,
+        &[frame(0); 70],
+        [70, 0, 64, 6, 0, 70 + 15, 983_040],
+        &[],
+    )
+}
+
+// The third is oversize and not too long. The fourth costs 1,546, and the fifth goes at that port time.
+#[test]
+fn long_records(rt: HostRuntime) -> Result<(), Fail> {
+    let line = "run i o 1000000000 2000000 1 1";
+    let last = sized(60, 60);
+    let records = [
+        sized(60, 1523),
+        sized(2049, 2049),
+        sized(2048, 2048),
+        sized(60, 1522),
+        last,
+    ];
+    let sent = [sized(60, 1522), frame(1546)];
+    succeeds(&rt, line, &records, [2, 2, 0, 0, 0, 2, 1630], &sent)?;
+    let mut shelf = shelf_with(&rt, &records)?;
+    let ended = run(&rt, line, &mut shelf, &mut WholeSink::new(rt.alloc()))?;
+    let [input] = ended.inputs.as_slice() else {
+        return Err(Fail::from("not one input"));
+    };
+    assert_eq!(rt;
+        [input.read, input.sent, input.left, input.unwritten],
+        [5, 2, 0, 0]
+    );
+    assert_eq!(rt; input.reasons, [0, 0, 2, 1, 0, 0, 0]);
+    Ok(())
+}
+
+// A header of 24 bytes, and three records of 76: only between records is a cut capture whole.
+#[test]
+fn cut_inputs(rt: HostRuntime) -> Result<(), Fail> {
+    let line = "run i o 1000000000 2000000 1 1";
+    let whole = capture(rt.alloc(), &[frame(0); 3])?;
+    for len in 0..253 {
+        let cut = whole.get(..len).ok_or("too short")?;
+        if !matches!(len, 24 | 100 | 176 | 252) {
+            fails(&rt, line, cut, 6, "status 6\n")?;
+        }
+    }
+    for (records, dequeues, time) in [(0, 0, 0), (1, 1, 84), (2, 2, 168), (3, 2, 252)] {
+        let frames = [frame(0); 3];
+        let frames = frames.get(..records).ok_or("too many")?;
+        let sent = records_at([0, 84, 168]);
+        let sent = sent.get(..records).ok_or("too many")?;
+        let n = records as u64;
+        succeeds(&rt, line, frames, [n, n, 0, 0, 0, dequeues, time], sent)?;
+    }
+    Ok(())
+}
+
+// One call fails; whatever failed, the run comes to this status, with so many of three frames sent, and so many
+// bytes put.
+fn one_failure<R: Sync + AllocGlobal + Abort>(
+    rt: &R,
+    fails: Fails,
+    status: u8,
+    sent: u64,
+    put: usize,
+) -> Result<(), Fail> {
+    let input = capture(rt.alloc(), &[frame(0); 3])?;
+    let mut shelf = FaultyShelf::new(rt.alloc(), input, fails);
+    let mut said = WholeSink::new(rt.alloc());
+    let ended = run(rt, "run i o 1000000000 2000000 1 1", &mut shelf, &mut said)?;
+    assert_eq!(rt; ended.status, status, "{fails:?}");
+    let output = capture(rt.alloc(), &records_at([0, 84, 168]))?;
+    let first = output.get(..put).ok_or("too many bytes")?;
+    assert_eq!(rt; shelf.written.as_slice(), first, "{fails:?}");
+    if status == 4 {
+        assert!(rt;
+            ended.ports.as_slice().is_empty() && ended.inputs.as_slice().is_empty(),
+            "{fails:?}"
+        );
+        assert!(rt;
+            ended.write_fault.as_slice().is_empty() && !shelf.created,
+            "{fails:?}"
+        );
+        return Ok(());
+    }
+    let ([port], [input]) = (ended.ports.as_slice(), ended.inputs.as_slice()) else {
+        return Err(Fail::from("not one port and one input"));
+    };
+    let unwritten = 3u64.saturating_sub(sent);
+    assert_eq!(rt;
+        port.counts,
+        counts([3, sent, 0, 0, unwritten, 2, 252]),
+        "{fails:?}"
+    );
+    assert_eq!(rt;
+        [input.read, input.sent, input.unwritten],
+        [3, sent, unwritten],
+        "{fails:?}"
+    );
+    assert_eq!(rt;
+        ended.write_fault.as_slice(),
+        [status == 5].as_slice(),
+        "{fails:?}"
+    );
+    Ok(())
+}
+
+// The output is put in seven pieces: the header, and each record's head and body.
+#[test]
+fn failures_one_at_a_time(rt: HostRuntime) -> Result<(), Fail> {
+    one_failure(&rt, Fails::Nothing, 0, 3, 252)?;
+    one_failure(&rt, Fails::Open, 4, 0, 0)?;
+    for nth in [0, 1, 2] {
+        one_failure(&rt, Fails::Read(nth), 4, 0, 0)?;
+    }
+    one_failure(&rt, Fails::Create, 5, 0, 0)?;
+    for (nth, sent, put) in [
+        (0, 0, 0),
+        (1, 0, 24),
+        (2, 0, 40),
+        (3, 1, 100),
+        (4, 1, 116),
+        (5, 2, 176),
+        (6, 2, 192),
+    ] {
+        one_failure(&rt, Fails::Put(nth), 5, sent, put)?;
+    }
+    one_failure(&rt, Fails::Close, 5, 3, 252)
+}
+
+// The report is put at once, and fails: only the status of a good run becomes another.
+#[test]
+fn a_report_that_fails(rt: HostRuntime) -> Result<(), Fail> {
+    let words = words_of(rt.alloc(), "run i o 1000000000 2000000 1 1")?;
+    for (name, status, len) in [("i", 5, 252), ("other", 4, 0)] {
+        let mut shelf = MemShelf::new(rt.alloc());
+        shelf.put_file(name, capture(rt.alloc(), &[frame(0); 3])?)?;
+        let mut said = MemSink::new(rt.alloc(), [0u32].to_vec(rt.alloc())?);
+        let ended = qos_top(&rt, rt.alloc(), &words, &mut shelf, &mut said, &OpenGate);
+        assert_eq!(rt; ended.status, status, "{name}");
+        assert!(rt; said.bytes().is_empty(), "{name}");
+        assert_eq!(rt; shelf.file("o").unwrap_or(&[]).len(), len, "{name}");
+    }
+    let mut shelf = MemShelf::new(rt.alloc());
+    shelf.put_file("i", [0u8; 24].to_vec(rt.alloc())?)?;
+    let mut said = MemSink::new(rt.alloc(), [0u32].to_vec(rt.alloc())?);
+    let ended = qos_top(&rt, rt.alloc(), &words, &mut shelf, &mut said, &OpenGate);
+    assert_eq!(rt; ended.status, 6);
+    assert!(rt; shelf.file("o").is_none());
+    Ok(())
+}
+
+// The words name files in the folder where the test runs.
+#[test]
+fn same_on_real_files(rt: HostRuntime) -> Result<(), Fail> {
+    let line = "run i o 1000000000 2000 1 1000000000";
+    let mut files = FileShelf::new(&rt);
+    let mut input = files.create_out("i")?;
+    input.put(capture(rt.alloc(), &[frame(0); 12])?.as_slice())?;
+    files.close_out(input)?;
+    let mut said = WholeSink::new(rt.alloc());
+    let ended = run(&rt, line, &mut files, &mut said)?;
+    assert_eq!(rt; ended.status, 0);
+    assert_eq!(rt; said.bytes(), b"status 0\n".as_slice());
+
+    let mut shelf = shelf_with(&rt, &[frame(0); 12])?;
+    run(&rt, line, &mut shelf, &mut said)?;
+    let memory = shelf.file("o").ok_or("no output")?;
+    assert_eq!(rt; memory.len(), 24 + 11 * 76);
+    let mut output = files.open_in("o")?;
+    let mut bytes = [0u8; 1024];
+    let read = output.read(&mut bytes)?;
+    assert_eq!(rt; bytes.get(..read).ok_or("too many")?, memory);
+    Ok(())
+}
