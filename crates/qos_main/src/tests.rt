@@ -97,6 +97,13 @@ fn rows_of_the_command(rt: HostRuntime) -> Result<(), Fail> {
     Ok(())
 }
 
+// Nothing is scheduled.
+fn is_empty(ended: &Ended) -> bool {
+    ended.ports.as_slice().is_empty()
+        && ended.inputs.as_slice().is_empty()
+        && ended.write_fault.as_slice().is_empty()
+}
+
 // Nothing is scheduled, and no output is there.
 fn fails<R: Sync + AllocGlobal + Abort>(
     rt: &R,
@@ -111,11 +118,7 @@ fn fails<R: Sync + AllocGlobal + Abort>(
     let ended = run(rt, line, &mut shelf, &mut said)?;
     assert_eq!(rt; ended.status, status, "{line}");
     assert_eq!(rt; said.bytes(), report.as_bytes(), "{line}");
-    assert!(rt;
-        ended.ports.as_slice().is_empty() && ended.inputs.as_slice().is_empty(),
-        "{line}"
-    );
-    assert!(rt; ended.write_fault.as_slice().is_empty(), "{line}");
+    assert!(rt; is_empty(&ended), "{line}");
     assert!(rt; shelf.file("o").is_none(), "{line}");
     Ok(())
 }
@@ -138,7 +141,7 @@ fn nothing_is_run(rt: HostRuntime) -> Result<(), Fail> {
     )
 }
 
-// No bucket ever pays for a frame: its size is below the cost of 84. Each arrival of the last row is followed
+// In the first and the last run the bucket never comes to the cost of 84. Each arrival of the last is followed
 // by a dequeue at 0, also where it is turned away. The drain of 1,000,000 has 15 steps of 65,536, up to 983,040.
 #[test]
 fn paced_runs(rt: HostRuntime) -> Result<(), Fail> {
@@ -164,7 +167,19 @@ fn paced_runs(rt: HostRuntime) -> Result<(), Fail> {
         &records_at([0, 84]),
     )?;
 
-    // The advance to 2^50 has steps of 2^40 + 1, of which 1,023 fit.
+    let line = "run i o 1000000000 83 1 1";
+    succeeds(
+        &rt,
+        line,
+        &[frame(0); 70],
+        [70, 0, 64, 6, 0, 70 + 15, 983_040],
+        &[],
+    )
+}
+
+// The second frame comes 2^50 ns after the first. The advance to it has steps of 2^40 + 1, of which 1,023 fit.
+#[test]
+fn a_frame_after_a_long_pause(rt: HostRuntime) -> Result<(), Fail> {
     let line = "run i o 1000000000 83 1 1";
     let late = later(1_125_999, 906_842_624);
     let time = (1u64 << 50) + 983_040;
@@ -181,16 +196,7 @@ fn paced_runs(rt: HostRuntime) -> Result<(), Fail> {
     let line = "run i o 1000000000 168 1 1";
     let records = [frame(0), sized(200, 200), late];
     let numbers = [3, 1, 2, 0, 0, 1 + 1024 + 1 + 15, time];
-    succeeds(&rt, line, &records, numbers, &[frame(0)])?;
-
-    let line = "run i o 1000000000 83 1 1";
-    succeeds(
-        &rt,
-        line,
-        &[frame(0); 70],
-        [70, 0, 64, 6, 0, 70 + 15, 983_040],
-        &[],
-    )
+    succeeds(&rt, line, &records, numbers, &[frame(0)])
 }
 
 // The third is oversize and not too long. The fourth costs 1,546, and the fifth goes at that port time.
@@ -260,14 +266,7 @@ fn one_failure<R: Sync + AllocGlobal + Abort>(
     let first = output.get(..put).ok_or("too many bytes")?;
     assert_eq!(rt; shelf.written.as_slice(), first, "{fails:?}");
     if status == 4 {
-        assert!(rt;
-            ended.ports.as_slice().is_empty() && ended.inputs.as_slice().is_empty(),
-            "{fails:?}"
-        );
-        assert!(rt;
-            ended.write_fault.as_slice().is_empty() && !shelf.created,
-            "{fails:?}"
-        );
+        assert!(rt; is_empty(&ended) && !shelf.created, "{fails:?}");
         return Ok(());
     }
     let ([port], [input]) = (ended.ports.as_slice(), ended.inputs.as_slice()) else {
