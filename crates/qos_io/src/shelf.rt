@@ -1,5 +1,5 @@
 //! Files by their names.
-ghost use Rattle.std.specs.Prelude.{◌≡◌, ◌≢◌, ◌≤◌, ◌↔◌, ℕ, [], List, Option, Some, IsSome, IfOk, OnOk, OnErr, IsErrOf};
+ghost use Rattle.std.specs.Prelude.{◌≡◌, ◌≢◌, ◌≤◌, ◌↔◌, ◌⊎◌, ℕ, [], List, Option, Some, IsSome, IfOk, OnOk, OnErr, IsErrOf};
 
 use crate::{PutFault, Sink, Source};
 
@@ -39,11 +39,12 @@ pub trait Shelf {
         ensures same_to_read { (n : List ℕ) → IsSureToRead self.new n ↔ IsSureToRead self.old n }
         ensures same_to_write { (n : List ℕ) → IsSureToWrite self.new n ↔ IsSureToWrite self.old n };
 
-    /// An empty sink under that name. The file is then there, and empty.
+    /// An empty sink under that name. The file is then there, and empty; after a refusal it is as it was, or empty.
     fn create_out(&mut self, name: &str) -> Result<Self::Out, PutFault>
         ensures named { IfOk result (λ sink. Self.Out.name sink ≡ Some name.now) }
         ensures empty { Tells self.old → IfOk result (λ sink. Self.Out.contents sink ≡ Some []) }
         ensures created { Tells self.old → OnOk result (file self.new name.now ≡ Some []) }
+        ensures not_created { Tells self.old → OnErr result ((file self.new name.now ≡ file self.old name.now) ⊎ (file self.new name.now ≡ Some [])) }
         ensures files { (n : List ℕ) → n ≢ name.now → file self.new n ≡ file self.old n }
         ensures failed { IsErrOf result PutFault.Failed → HasRisen (faults self.old) (faults self.new) }
         ensures sure { IsSureToWrite self.old name.now → (IsErrOf result PutFault.Failed → ⊥) × IfOk result Self.Out.IsSure }
