@@ -1,5 +1,5 @@
 -- What a file holds once its sink is closed.
-use Rattle.std.proofs.Common.{◌≡◌, ◌<◌, ◌≤◌, ℕ, List, [], length, take, drop, Option, None, Some, Result, Ok, Err, sym, ap, ◌∙◌, ⊎_elim, arith}
+use Rattle.std.proofs.Common.{◌≡◌, ◌<◌, ◌≤◌, ◌⊎◌, ℕ, List, [], length, take, drop, Option, None, Some, Result, Ok, Err, refl, sym, ap, ◌∙◌, inl, inr, ⊎_elim, arith}
 use Rattle.std.specs.Option.{IfNone, IfSome}
 use Rattle.std.specs.Result.{OnOk, OnErr}
 use Rattle.std.proofs.lemmas.List.{take_all, take-append-le, take-append-drop}
@@ -25,15 +25,12 @@ pub at_ok : {P : Type 0} (closed : Result (Unit {0}) PutFault) (u : Unit {0}) �
 at_ok (Ok v) u is p = p
 at_ok (Err e) u is p = absurd (let no : ⊥ = cc in no)
 
--- a sink that was empty, was written to up to a fault or to the end, and was closed: its file holds a first part of the text
-pub holds_prefix : (text at : List ℕ) (name before after : Option (List ℕ)) (files : List ℕ → Option (List ℕ)) (fault : Option PutFault) (closed : Result (Unit {0}) PutFault) → name ≡ Some at → before ≡ Some [] → IfNone fault (after ≡ held_after text before) → IfSome fault (λ _. (n : ℕ) × (after ≡ held_after (take n text) before)) → OnOk closed ((n held : List ℕ) → name ≡ Some n → after ≡ Some held → files n ≡ Some held) → OnErr closed ((n held : List ℕ) → name ≡ Some n → after ≡ Some held → HoldsPrefix held (files n)) → HoldsPrefix text (files at)
-holds_prefix text at name before after files None (Ok u) named empty whole part held refused =
-    (length text, held at text named (whole ∙ ap (held_after text) empty) ∙ ap (λ (bytes : List ℕ). Some bytes) (sym (take_all (length text) text (omega arith))))
-holds_prefix text at name before after files None (Err e) named empty whole part held refused =
-    refused at text named (whole ∙ ap (held_after text) empty)
-holds_prefix text at name before after files (Some f) (Ok u) named empty whole part held refused =
+-- a sink that was empty, of whose text a first part was put, and that was closed: its file holds a first part of the text
+pub holds_prefix : (text at : List ℕ) (name before after : Option (List ℕ)) (files : List ℕ → Option (List ℕ)) (closed : Result (Unit {0}) PutFault) → name ≡ Some at → before ≡ Some [] → (n : ℕ) × (after ≡ held_after (take n text) before)
+    → OnOk closed ((n held : List ℕ) → name ≡ Some n → after ≡ Some held → files n ≡ Some held) → OnErr closed ((n held : List ℕ) → name ≡ Some n → after ≡ Some held → HoldsPrefix held (files n)) → HoldsPrefix text (files at)
+holds_prefix text at name before after files (Ok u) named empty part held refused =
     (part.0, held at (take part.0 text) named (part.1 ∙ ap (held_after (take part.0 text)) empty))
-holds_prefix text at name before after files (Some f) (Err e) named empty whole part held refused =
+holds_prefix text at name before after files (Err e) named empty part held refused =
     let rest = refused at (take part.0 text) named (part.1 ∙ ap (held_after (take part.0 text)) empty) in
     let short = take-take rest.0 part.0 text in
     (short.0, rest.1 ∙ ap (λ (bytes : List ℕ). Some bytes) short.1)

@@ -1,11 +1,11 @@
 -- What was read, scheduled and written is the outcome of the command.
-use Rattle.std.proofs.Common.{◌≡◌, ◌<◌, ◌≤◌, ◌⊎◌, ℕ, ◌+◌, Bool, true, false, cond, List, [], ◌∷◌, ◌++◌, length, map, sum, get_or, Option, Some, All, refl, sym, ap, ◌∙◌, subst, inl, inr, ⊎_elim, append_assoc, length-append, arith}
+use Rattle.std.proofs.Common.{◌≡◌, ◌<◌, ◌≤◌, ◌⊎◌, ℕ, ◌+◌, Bool, true, false, cond, List, [], ◌∷◌, ◌++◌, length, take, map, sum, get_or, Option, Some, All, refl, sym, ap, ◌∙◌, subst, inl, inr, ⊎_elim, append_assoc, length-append, arith}
 use Rattle.std.specs.List.Sorted.{IsPermutation}
 use Rattle.std.specs.List.{count_by}
 use Rattle.std.specs.List.{slice_index_or}
 use Rattle.std.proofs.Math.ListN.{get_or-append, get_or-map}
 use Rattle.std.proofs.lemmas.List.{length-map, map-append, get_or_at}
-use Rattle.std.proofs.lemmas.List.Elements.{All-nil, All-cons, All-same}
+use Rattle.std.proofs.lemmas.List.Elements.{All-nil, All-cons, All-same, All-take}
 use Rattle.std.proofs.lemmas.List.Sorted.{All-permutation, length_permutation}
 use Rattle.qos_base.specs.declared.packet.Pkt.{Pkt}
 use Rattle.qos_base.specs.declared.packet.Departure.{Departure}
@@ -28,7 +28,7 @@ use Rattle.qos_main.specs.Paced.{paced_course}
 use Rattle.qos_main.specs.PortRun.{plan_of, parcels, IsOutcomeOf}
 use Rattle.qos_main.specs.Run.{shaper_of, arrival_time, drain_of, paced_journal}
 use Rattle.qos_main.specs.Output.{output_text, kept, IsWritable}
-use Rattle.qos_main.specs.Top.{origin_in, output_of, HasCounts, IsAccount, IsOutcome, IsCountOf, IsEndOf, PutsTogether}
+use Rattle.qos_main.specs.Top.{origin_in, output_of, sends_of, HasCounts, IsAccount, IsOutcome, IsCountOf, IsEndOf, PutsTogether}
 use Rattle.qos_main.proofs.Outputs.{output_text-same}
 
 if-true : {X : Type 0} (b : Bool) (x y : X) → b ≡ true → cond b x y ≡ x
@@ -108,16 +108,17 @@ module _ (command : Command) (records : List Record) (input : Input) (port : Por
   abbrev schedule_here : Schedule
   schedule_here = schedule_of (shaper_of command) port.journal.items
 
-  -- the output with the bodies that were kept is the output with the records' own
-  text_is : output_text input.origin command.line (kept input.bodies) port.sends.items ≡ output_of command records port.journal.items
-  text_is =
-      let same : All (λ (d : Departure Pkt). FindsBody records d.parcel) schedule_here.sends =
+  finds_sends : All (λ (d : Departure Pkt). FindsBody records d.parcel) schedule_here.sends
+  finds_sends =
       All-sends (FindsBody records) (arrivals_of port.journal.items) schedule_here.port.queue schedule_here.drops schedule_here.sends outcome.account
-      (All-same (FindsBody records) _ _ (arrivals ∙ read.packets) (finds_bodies records)) in
-      ap (λ n. output_text n command.line (kept input.bodies) port.sends.items) read.origin
-      ∙ ap (λ (bs : List (List ℕ)). output_text (origin_in records) command.line (kept bs) port.sends.items) read.bodies
-      ∙ ap (output_text (origin_in records) command.line (kept (kept_bodies records))) outcome.sends
-      ∙ output_text-same (origin_in records) command.line (kept (kept_bodies records)) (body_at records) schedule_here.sends same
+      (All-same (FindsBody records) _ _ (arrivals ∙ read.packets) (finds_bodies records))
+
+  -- the output of these sends with the bodies that were kept is their output with the records' own
+  text_is : (sends : List (Departure Pkt)) → All (λ (d : Departure Pkt). FindsBody records d.parcel) sends → output_text input.origin command.line (kept input.bodies) sends ≡ output_of command records sends
+  text_is sends same =
+      ap (λ n. output_text n command.line (kept input.bodies) sends) read.origin
+      ∙ ap (λ (bs : List (List ℕ)). output_text (origin_in records) command.line (kept bs) sends) read.bodies
+      ∙ output_text-same (origin_in records) command.line (kept (kept_bodies records)) (body_at records) sends same
 
   counts_are : (written : ℕ) (counts : PortCounts) → IsCountOf port written counts → HasCounts port.journal.items schedule_here counts.sent counts
   counts_are written counts is = record {
@@ -152,11 +153,19 @@ module _ (command : Command) (records : List Record) (input : Input) (port : Por
         stopped = numbers.stopped;
       }
 
-  pub outcome_is : (file : OutFile) (ended : Ended) (held : Option (List ℕ)) → IsUsable input → port.journal.items ≡ (paced_course (plan_of (shaper_of command)) (arrival_time command.line input.origin) (drain_of command.line) input.packets.items).journal → (file.fault ≡ false → held ≡ Some (output_text input.origin command.line (kept input.bodies) port.sends.items)) → (file.fault ≡ false → file.written ≡ length port.sends.items) → (file.fault ≡ true → (file.written ≡ 0) ⊎ HoldsPrefix (output_text input.origin command.line (kept input.bodies) port.sends.items) held) → PutsTogether input port file ended → IsOutcome command records held ended
-  outcome_is file ended held usable paced whole all cut put =
+  pub outcome_is : (file : OutFile) (ended : Ended) (before held : Option (List ℕ)) → IsUsable input → port.journal.items ≡ (paced_course (plan_of (shaper_of command)) (arrival_time command.line input.origin) (drain_of command.line) input.packets.items).journal → (file.fault ≡ false → held ≡ Some (output_text input.origin command.line (kept input.bodies) port.sends.items)) → (file.fault ≡ false → file.written ≡ length port.sends.items)
+      → (file.fault ≡ true → HoldsPrefix (output_text input.origin command.line (kept input.bodies) (take (file.written + 1) port.sends.items)) held ⊎ ((file.written ≡ 0) × (held ≡ before))) → PutsTogether input port file ended → IsOutcome command records before held ended
+  outcome_is file ended before held usable paced whole all cut put =
       let journal : put.port_end.journal ≡ port.journal.items = put.journal in
       let merge : arrivals_of put.port_end.journal ≡ admitted records = ap arrivals_of journal ∙ arrivals ∙ read.packets in
-      let text : output_text input.origin command.line (kept input.bodies) port.sends.items ≡ output_of command records put.port_end.journal = text_is ∙ ap (output_of command records) (sym journal) in
+      let sends : port.sends.items ≡ sends_of command put.port_end.journal = outcome.sends ∙ ap (sends_of command) (sym journal) in
+      let text : List (Departure Pkt) → List ℕ = output_text input.origin command.line (kept input.bodies) in
+      let found = All-same (λ (d : Departure Pkt). FindsBody records d.parcel) _ _ (ap (sends_of command) journal) finds_sends in
+      let whole_text : text port.sends.items ≡ output_of command records (sends_of command put.port_end.journal) =
+      ap text sends ∙ text_is (sends_of command put.port_end.journal) found in
+      let first_text : text (take (file.written + 1) port.sends.items) ≡ output_of command records (take (put.port_end.counts.sent + 1) (sends_of command put.port_end.journal)) =
+      ap (λ (ds : List (Departure Pkt)). text (take (file.written + 1) ds)) sends ∙ ap (λ n. text (take (n + 1) (sends_of command put.port_end.journal))) (sym put.counts.sent)
+      ∙ text_is _ (All-take (λ (d : Departure Pkt). FindsBody records d.parcel) (put.port_end.counts.sent + 1) _ found) in
       let counts = counts_are file.written put.port_end.counts put.counts in
       let account = account_is file.written put.port_end.counts put.input_end usable put.counts put.numbers in
       record {
@@ -170,7 +179,10 @@ module _ (command : Command) (records : List Record) (input : Input) (port : Por
         pacing = journal ∙ paced ∙ ap (λ n. paced_journal command n input.packets.items) read.origin ∙ ap (paced_journal command (origin_in records)) (read.packets ∙ sym merge);
         counts = subst (λ (js : List Entry). HasCounts js (schedule_of (shaper_of command) js) put.port_end.counts.sent put.port_end.counts) (sym journal) counts;
         account = subst (λ (js : List Entry). IsAccount records (schedule_of (shaper_of command) js) put.port_end.counts put.input_end) (sym journal) account;
-        output = λ fine. whole fine ∙ ap (λ (t : List ℕ). Some t) text;
+        output = λ fine. whole fine ∙ ap (λ (t : List ℕ). Some t) whole_text;
         all_sent = λ fine. let written = all fine in omega (arith, put.counts.unwritten);
-        cut = λ faulty. ⊎_elim (λ (none : file.written ≡ 0). inl (put.counts.sent ∙ none)) (λ (part : HoldsPrefix (output_text input.origin command.line (kept input.bodies) port.sends.items) held). inr (subst (λ (t : List ℕ). HoldsPrefix t held) text part)) (cut faulty);
+        cut = λ faulty.
+            ⊎_elim (λ (part : HoldsPrefix (text (take (file.written + 1) port.sends.items)) held). inl (subst (λ (t : List ℕ). HoldsPrefix t held) first_text part))
+            (λ (none : (file.written ≡ 0) × (held ≡ before)). inr (put.counts.sent ∙ none.0, none.1))
+            (cut faulty);
       }

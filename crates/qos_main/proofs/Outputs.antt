@@ -1,13 +1,14 @@
 -- What is put of an output, a send at a time.
-use Rattle.std.proofs.Common.{◌≡◌, ◌<◌, ◌≤◌, ℕ, zero, suc, ◌+◌, List, [], ◌∷◌, ◌++◌, length, take, get_or, slice_get, slice_index_or, All, IfNone, Option, Some, None, refl, sym, ap, subst, ◌∙◌, inl, inr, arith, zero-add, suc-add, length-append}
+use Rattle.std.proofs.Common.{◌≡◌, ◌<◌, ◌≤◌, ℕ, zero, suc, ◌+◌, List, [], ◌∷◌, ◌++◌, length, take, get_or, slice_get, slice_index_or, All, IfNone, IfSome, Option, Some, None, refl, sym, ap, subst, ◌∙◌, inl, inr, arith, zero-add, suc-add, length-append}
 use Rattle.std.specs.List.{flat_map}
 use Rattle.std.proofs.lemmas.Bool.{cases_lt}
 use Rattle.std.proofs.lemmas.Grind.{flat_map-append}
 use Rattle.std.proofs.lemmas.List.{append_assoc, append-nil, take-append-le, take_all, take_more}
-use Rattle.std.proofs.lemmas.Option.{slice_get-get_or}
+use Rattle.std.proofs.lemmas.Option.{slice_get-get_or, slice_get_within, get_or_from_slice_get}
 use Rattle.qos_base.specs.declared.packet.Pkt.{Pkt}
 use Rattle.qos_base.specs.declared.packet.Departure.{Departure}
 use Rattle.qos_base.specs.Time.{send_stamp_of}
+use Rattle.qos_io.specs.declared.sink.PutFault.{PutFault}
 use Rattle.qos_io.specs.Bytes.{held_after}
 use Rattle.qos_io.specs.Fault.{HasRisen}
 use Rattle.qos_pcap.specs.Written.{header_text, record_text}
@@ -92,33 +93,22 @@ take_behind : (n : ℕ) (first second : List ℕ) → take (length first + n) (f
 take_behind n [] second = rw (zero-add n) refl
 take_behind n (x ∷ xs) second = rw (suc-add (length xs) n) (ap (λ (ys : List ℕ). x ∷ ys) (take_behind n xs second))
 
-some_same : {X : Type 0} (x y : X) → Some x ≡ Some y → x ≡ y
-some_same x y e = cc
-
--- some whole texts and the first part of the next are a first part of all of them
-take-flat_map : {X : Type 0} (f : X → List ℕ) (xs : List X) (i n : ℕ) (x : X) → slice_get xs i ≡ Some x → n ≤ length (f x)
-    → flat_map f (take i xs) ++ take n (f x) ≡ take (length (flat_map f (take i xs)) + n) (flat_map f xs)
-take-flat_map f [] i n x e part = absurd (let no : ⊥ = cc in no)
-take-flat_map f (y ∷ xs) zero n x e part =
-    rw (zero-add n) (ap (λ z. take n (f z)) (sym (some_same y x e)) ∙ sym (take-append-le n (f y) (flat_map f xs) (omega (arith, ap (λ z. length (f z)) (some_same y x e)))))
-take-flat_map f (y ∷ xs) (suc i) n x e part =
-    let front : List ℕ = flat_map f (take i xs) in
-    append_assoc (f y) front (take n (f x)) ∙ ap (λ (r : List ℕ). f y ++ r) (take-flat_map f xs i n x e part)
-    ∙ sym (take_behind (length front + n) (f y) (flat_map f xs))
-    ∙ ap (λ k. take k (f y ++ flat_map f xs)) (omega (arith, length-append (f y) front))
-
--- what is there after a refused put is a first part of the output
-pub take-output_text : (origin line : ℕ) (body : ℕ → List ℕ) (sends : List (Departure Pkt)) (count : ℕ) (text : List ℕ) → IsCut origin line body sends count text
-    → (n : ℕ) × (text ≡ take n (output_text origin line body sends))
+-- what is there after a refused put is a first part of the output, up to the next record at the most
+take-output_text : (origin line : ℕ) (body : ℕ → List ℕ) (sends : List (Departure Pkt)) (count : ℕ) (text : List ℕ) → IsCut origin line body sends count text
+    → (n : ℕ) × (text ≡ take n (output_text origin line body (take (count + 1) sends)))
 unfolding output_text
 take-output_text origin line body sends count text (inl cut) =
-    (cut.n, cut.is ∙ sym (take-append-le cut.n header_text (sends_text origin line body sends) cut.part))
+    (cut.n, cut.is ∙ sym (take-append-le cut.n header_text (sends_text origin line body (take (count + 1) sends)) cut.part))
 take-output_text origin line body sends count text (inr (records, cut, e)) =
-    let f : Departure Pkt → List ℕ = send_text origin line body in
-    let m : ℕ = length (flat_map f (take count sends)) + cut.n in (
+    let whole : List ℕ = sends_text origin line body (take count sends) in
+    let next : List ℕ = send_text origin line body cut.next in
+    let more : whole ++ next ≡ sends_text origin line body (take (count + 1) sends) =
+    ap (λ d. whole ++ send_text origin line body d) (sym (get_or_from_slice_get sends count cut.next cut.next cut.is_next))
+    ∙ sends_text-take_more origin line body sends count cut.next (slice_get_within sends count cut.next cut.is_next) in
+    let m : ℕ = length whole + cut.n in (
       length header_text + m,
-      e ∙ ap (λ (r : List ℕ). header_text ++ r) (cut.is ∙ take-flat_map f sends count cut.n cut.next cut.is_next cut.part)
-          ∙ sym (take_behind m header_text (sends_text origin line body sends)),
+      e ∙ ap (λ (r : List ℕ). header_text ++ r) (cut.is ∙ sym (take_behind cut.n whole next) ∙ ap (take m) more)
+          ∙ sym (take_behind m header_text (sends_text origin line body (take (count + 1) sends))),
     )
 
 flat_map-same : {X : Type 0} (f g : X → List ℕ) (xs : List X) → All (λ x. f x ≡ g x) xs → flat_map f xs ≡ flat_map g xs
@@ -160,10 +150,14 @@ module _ (origin line : ℕ) (body : ℕ → List ℕ) (sends : List (Departure 
   cut_output count before between after was (records, cut, is) =
       (header_text ++ records, inr (records, cut, refl), put_both header_text records before between after was is)
 
-  -- what was cut is a first part
-  pub prefix_put : (count : ℕ) (before after : Option (List ℕ)) → (text : List ℕ) × IsCut origin line body sends count text × (after ≡ held_after text before)
-      → (n : ℕ) × (after ≡ held_after (take n (output_text origin line body sends)) before)
-  prefix_put count before after (text, cut, is) =
+  -- whatever was put is a first part, up to the record after the counted ones at the most
+  pub prefix_put : (count : ℕ) (fault : Option PutFault) (before after : Option (List ℕ)) → IfNone fault (count ≡ length sends) → IfNone fault (after ≡ held_after (output_text origin line body sends) before)
+      → IfSome fault (λ _. (text : List ℕ) × IsCut origin line body sends count text × (after ≡ held_after text before)) → (n : ℕ) × (after ≡ held_after (take n (output_text origin line body (take (count + 1) sends))) before)
+  prefix_put count None before after all whole cut =
+      let text : List (Departure Pkt) → List ℕ = output_text origin line body in
+      let same : take (count + 1) sends ≡ sends = take_all (count + 1) sends (omega (arith, all)) in
+      (length (text sends), whole ∙ ap (λ (t : List ℕ). held_after t before) (sym (take_all (length (text sends)) (text sends) (omega arith)) ∙ ap (λ ds. take (length (text sends)) (text ds)) (sym same)))
+  prefix_put count (Some fault) before after all whole (text, cut, is) =
       let first = take-output_text origin line body sends count text cut in
       (first.0, is ∙ ap (λ (t : List ℕ). held_after t before) first.1)
 

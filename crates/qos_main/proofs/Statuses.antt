@@ -63,8 +63,8 @@ was_six status before after answer (inr (inl five)) six = absurd (omega (arith, 
 was_six status before after answer (inr (inr seven)) six = absurd (omega arith)
 
 -- nothing but the status is another
-pub outcome_stays : (command : Command) (records : List Record) (file : Option (List ℕ)) (ended : Ended) (status : ℕ) → IsOutcome command records file ended → IsOutcome command records file (record { status = status; ports = ended.ports; inputs = ended.inputs; write_fault = ended.write_fault })
-outcome_stays command records file ended status is = record {
+pub outcome_stays : (command : Command) (records : List Record) (before file : Option (List ℕ)) (ended : Ended) (status : ℕ) → IsOutcome command records before file ended → IsOutcome command records before file (record { status = status; ports = ended.ports; inputs = ended.inputs; write_fault = ended.write_fault })
+outcome_stays command records before file ended status is = record {
   port = is.port;
   input = is.input;
   fault = is.fault;

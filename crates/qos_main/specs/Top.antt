@@ -1,7 +1,9 @@
 -- What a run ends with.
-use Rattle.std.specs.Prelude.{◌≡◌, ◌⊎◌, ℕ, ◌+◌, ◌≤◌, vec_capacity, if◌then◌else◌, Bool, true, false, List, [], ◌∷◌, ◌++◌, length, map, String, string_bytes, Option, Some, sum, count_by, Contains}
+use Rattle.std.specs.Prelude.{◌≡◌, ◌⊎◌, ℕ, ◌+◌, ◌≤◌, vec_capacity, if◌then◌else◌, Bool, true, false, List, [], ◌∷◌, ◌++◌, length, take, map, String, string_bytes, Option, Some, sum, count_by, Contains}
 use Rattle.std.specs.declared.alloc.Global.{Global}
 use Rattle.std.specs.List.Sorted.{IsPermutation}
+use Rattle.qos_base.specs.declared.packet.Pkt.{Pkt}
+use Rattle.qos_base.specs.declared.packet.Departure.{Departure}
 use Rattle.qos_base.specs.Time.{origin_of}
 use Rattle.qos_io.specs.Bytes.{HoldsPrefix}
 use Rattle.qos_pcap.specs.declared.fault.Stop.TheVariants.{End}
@@ -38,10 +40,13 @@ named input output line size credits period =
 abbrev pub origin_in : List Record → ℕ
 origin_in records = origin_of (first_stamp records ∷ [])
 
--- the output of a journal: its sends, each with the captured bytes of its record
-abbrev pub output_of : Command → List Record → List Entry → List ℕ
-output_of command records journal =
-    output_text (origin_in records) command.line (body_at records) (schedule_of (shaper_of command) journal).sends
+-- the output of these sends, each with the captured bytes of its record
+abbrev pub output_of : Command → List Record → List (Departure Pkt) → List ℕ
+output_of command records sends = output_text (origin_in records) command.line (body_at records) sends
+
+-- what a journal sends
+abbrev pub sends_of : Command → List Entry → List (Departure Pkt)
+sends_of command journal = (schedule_of (shaper_of command) journal).sends
 
 -- the numbers of a port are those of the schedule of its journal; of its sends `written` were put whole
 pub record HasCounts (journal : List Entry) (schedule : Schedule) (written : ℕ) (counts : PortCounts) : Type 0 where
@@ -65,8 +70,9 @@ pub record IsAccount (records : List Record) (schedule : Schedule) (counts : Por
   pub unslotted : input.unslotted ≡ []
   pub stopped : input.stopped ≡ End
 
--- The run of a command over these records, where `file` is what the file of its output then holds, if it is there.
-pub record IsOutcome (command : Command) (records : List Record) (file : Option (List ℕ)) (ended : Ended) : Type 0 where
+-- The run of a command over these records, where `before` and `file` are what the file of its output held before it and
+-- holds after it, if it is there.
+pub record IsOutcome (command : Command) (records : List Record) (before file : Option (List ℕ)) (ended : Ended) : Type 0 where
   pub port : PortEnd
   pub input : InputEnd
   pub fault : Bool
@@ -80,10 +86,11 @@ pub record IsOutcome (command : Command) (records : List Record) (file : Option 
   pub counts : HasCounts port.journal (schedule_of (shaper_of command) port.journal) port.counts.sent port.counts
   pub account : IsAccount records (schedule_of (shaper_of command) port.journal) port.counts input
   -- without a write fault the output is whole
-  pub output : fault ≡ false → file ≡ Some (output_of command records port.journal)
+  pub output : fault ≡ false → file ≡ Some (output_of command records (sends_of command port.journal))
   pub all_sent : fault ≡ false → port.counts.unwritten ≡ 0
-  -- after one it is the first part of its text, or was not created
-  pub cut : fault ≡ true → (port.counts.sent ≡ 0) ⊎ HoldsPrefix (output_of command records port.journal) file
+  -- After one it is a first part of its text, up to the record after those counted as sent at the most, or it was not
+  -- created: nothing was sent, and the file is as it was.
+  pub cut : fault ≡ true → HoldsPrefix (output_of command records (take (port.counts.sent + 1) (sends_of command port.journal))) file ⊎ ((port.counts.sent ≡ 0) × (file ≡ before))
 
 -- the lists of an end, empty and with room for one place each
 pub record HasRoom (lists : Lists) : Type 0 where

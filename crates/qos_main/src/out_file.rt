@@ -1,5 +1,5 @@
 //! The file that a port's output is written to.
-ghost use Rattle.std.specs.Prelude.{◌≡◌, ◌≢◌, ◌≤◌, ◌↔◌, ◌⊎◌, ℕ, List, All, Some, true, false, length, IfOk};
+ghost use Rattle.std.specs.Prelude.{◌≡◌, ◌≢◌, ◌≤◌, ◌+◌, ◌↔◌, ◌⊎◌, ℕ, List, All, Some, true, false, length, take, IfOk};
 ghost use Rattle.qos_base.specs.Time.{IsLineRate};
 ghost use Rattle.qos_io.specs.Bytes.{HoldsPrefix};
 ghost use Rattle.qos_main.specs.Output.{output_text, kept, IsWritable};
@@ -35,8 +35,10 @@ pub fn write_file<H: Shelf>(
 
     ensures whole { H.Tells shelf.old → IfOk result (λ f. f.fault ≡ false → H.file shelf.new name.now ≡ Some (output_text origin line (kept bodies.now) sends.now)) }
     ensures all { IfOk result (λ f. f.fault ≡ false → f.written ≡ length sends.now) }
-    // After a fault the file holds the first part of its text, or was not created.
-    ensures cut { H.Tells shelf.old → IfOk result (λ f. f.fault ≡ true → (f.written ≡ 0) ⊎ HoldsPrefix (output_text origin line (kept bodies.now) sends.now) (H.file shelf.new name.now)) }
+    // After a fault the file holds a first part of its text, up to the record after the written ones at the most, or
+    // it was not created and is as it was.
+    ensures cut { H.Tells shelf.old → IfOk result (λ f. f.fault ≡ true → HoldsPrefix (output_text origin line (kept bodies.now) (take (f.written + 1) sends.now)) (H.file shelf.new name.now)
+        ⊎ ((f.written ≡ 0) × (H.file shelf.new name.now ≡ H.file shelf.old name.now))) }
     ensures within { IfOk result (λ f. f.written ≤ length sends.now) }
     ensures fault { IfOk result (λ f. f.fault ≡ true → H.IsSureToWrite shelf.old name.now → ⊥) }
 

@@ -1,5 +1,5 @@
 //! The call that the program makes: a command, from its words to its report.
-ghost use Rattle.std.specs.Prelude.{◌≡◌, ◌≢◌, ◌≤◌, ◌⊎◌, ◌^◌, ℕ, List, [], ◌∷◌, Some, None, false, length, IfOk, IsErr, IsErrOf};
+ghost use Rattle.std.specs.Prelude.{◌≡◌, ◌≢◌, ◌≤◌, ◌⊎◌, ◌^◌, ℕ, List, [], ◌∷◌, Some, None, true, false, length, IfOk, IsErr, IsErrOf};
 ghost use Rattle.qos_base.specs.Time.{IsLineRate};
 ghost use Rattle.qos_io.specs.Fault.{HasRisen};
 ghost use Rattle.qos_pcap.specs.Format.{Record};
@@ -121,7 +121,7 @@ fn run<H: Shelf>(alloc: Global, command: &Command<'_>, shelf: &mut H) -> Result<
     requires names { command.now.input.now ≢ command.now.output.now }
 
     ensures outcome { H.Tells shelf.old → IfOk result (λ ended. (bytes : List ℕ) → H.file shelf.old command.now.input.now ≡ Some bytes
-        → (records : List Record) × IsWholeCapture 2000000000 bytes records × IsOutcome (named command.now.input.now command.now.output.now command.now.line command.now.size command.now.credits command.now.period) records (H.file shelf.new command.now.output.now) ended) }
+        → (records : List Record) × IsWholeCapture 2000000000 bytes records × IsOutcome (named command.now.input.now command.now.output.now command.now.line command.now.size command.now.credits command.now.period) records (H.file shelf.old command.now.output.now) (H.file shelf.new command.now.output.now) ended) }
     ensures done { IfOk result IsDone }
     ensures write { IfOk result (λ ended. ended.status ≡ 5 → H.IsSureToWrite shelf.old command.now.output.now → ⊥) }
 
@@ -179,13 +179,14 @@ fn run_words<H: Shelf>(alloc: Global, words: &[String], shelf: &mut H) -> Ended
     ensures capture { (command : Asked) → asked words.now ≡ Some command → result.status ≡ 6 → H.Tells shelf.old
         → (bytes : List ℕ) (records : List Record) → H.file shelf.old command.input ≡ Some bytes → IsWholeCapture 2000000000 bytes records → ⊥ }
     ensures write { (command : Asked) → asked words.now ≡ Some command → result.status ≡ 5 → H.IsSureToWrite shelf.old command.output → ⊥ }
+    ensures write_fault { (command : Asked) → asked words.now ≡ Some command → result.write_fault ≡ true ∷ [] → H.IsSureToWrite shelf.old command.output → ⊥ }
 
     ensures nothing { IsRefusal result.status → IsEmptyEnd result × ((n : List ℕ) → H.file shelf.new n ≡ H.file shelf.old n) }
     ensures files { (n : List ℕ) → ((command : Asked) → asked words.now ≡ Some command → n ≢ command.output) → H.file shelf.new n ≡ H.file shelf.old n }
 
     ensures done { IsRun result.status → IsDone result }
     ensures outcome { (command : Asked) → asked words.now ≡ Some command → IsRun result.status → H.Tells shelf.old → (bytes : List ℕ) → H.file shelf.old command.input ≡ Some bytes
-        → (records : List Record) × IsWholeCapture 2000000000 bytes records × IsOutcome command records (H.file shelf.new command.output) result }
+        → (records : List Record) × IsWholeCapture 2000000000 bytes records × IsOutcome command records (H.file shelf.old command.output) (H.file shelf.new command.output) result }
 {
     let Some(command) = read_command(words) else {
         return nothing(alloc, 2);
@@ -227,9 +228,11 @@ pub fn qos_top<R: Sync, H: Shelf, K: Sink, G: Gate>(
     ensures capture { (command : Asked) → asked words.now ≡ Some command → result.status ≡ 6 → H.Tells shelf.old
         → (bytes : List ℕ) (records : List Record) → H.file shelf.old command.input ≡ Some bytes → IsWholeCapture 2000000000 bytes records → ⊥ }
 
-    // 5: only where the name of the output is not sure to write, or the report failed.
+    // 5: only where the name of the output is not sure to write, or the report failed; the output has a fault only
+    // where its name is not sure.
     ensures write { (command : Asked) → asked words.now ≡ Some command → result.status ≡ 5
         → (H.IsSureToWrite shelf.old command.output → ⊥) ⊎ HasRisen (K.faults said.old) (K.faults said.new) }
+    ensures write_fault { (command : Asked) → asked words.now ≡ Some command → result.write_fault ≡ true ∷ [] → H.IsSureToWrite shelf.old command.output → ⊥ }
 
     // At 2, 4 and 6 nothing was created, and the lists are empty. At any status no file changes but the output's.
     ensures nothing { IsRefusal result.status → IsEmptyEnd result × ((n : List ℕ) → H.file shelf.new n ≡ H.file shelf.old n) }
@@ -238,7 +241,7 @@ pub fn qos_top<R: Sync, H: Shelf, K: Sink, G: Gate>(
     // At 0 and 5: the journal is the paced journal of its arrivals, which are the admitted packets of the input;
     // the output is what the journal's schedule sends; each record is accounted for.
     ensures outcome { (command : Asked) → asked words.now ≡ Some command → IsRun result.status → H.Tells shelf.old → (bytes : List ℕ) → H.file shelf.old command.input ≡ Some bytes
-        → (records : List Record) × IsWholeCapture 2000000000 bytes records × IsOutcome command records (H.file shelf.new command.output) result }
+        → (records : List Record) × IsWholeCapture 2000000000 bytes records × IsOutcome command records (H.file shelf.old command.output) (H.file shelf.new command.output) result }
     ensures fine { result.status ≡ 0 → result.write_fault ≡ false ∷ [] }
 
     // The report is the text of the status before it, or a first part of that text where its sink refused it.

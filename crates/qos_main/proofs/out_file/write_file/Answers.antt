@@ -1,4 +1,4 @@
-use Rattle.std.proofs.Common.{ap, ◌∙◌, inr}
+use Rattle.std.proofs.Common.{◌+◌, ap, ◌∙◌, inl, take}
 use Rattle.qos_io.specs.Bytes.{held_after}
 use Rattle.qos_main.specs.Output.{output_text, kept}
 use Rattle.qos_main.proofs.OutFiles.{at_none, at_ok, holds_prefix}
@@ -14,11 +14,11 @@ returns-in-None-Ok-clause-whole g c = λ told fine.
 pub returns-in_default-clause-cut : goal.returns-in_default-clause-cut
 returns-in_default-clause-cut g c = λ told faulty.
     let now_told = c.in-Ok.ensures.tells.1 told in
-    inr (holds_prefix (output_text c.args.origin c.args.line (kept c.args.bodies.now) c.args.sends.now) c.args.name.now _ _ _ (g.H.Shelf.file c.close_out-closed.new.self) c.write_output-written.result.fault c.close_out-closed.result
-    (c.write_output-written.ensures.name ∙ c.in-Ok.ensures.named) (c.in-Ok.ensures.empty told) c.write_output-written.ensures.whole c.write_output-written.ensures.prefix (c.close_out-closed.ensures.held now_told) (c.close_out-closed.ensures.refused now_told))
+    inl (holds_prefix (output_text c.args.origin c.args.line (kept c.args.bodies.now) (take (c.write_output-written.result.count + 1) c.args.sends.now)) c.args.name.now _ _ _ (g.H.Shelf.file c.close_out-closed.new.self) c.close_out-closed.result
+    (c.write_output-written.ensures.name ∙ c.in-Ok.ensures.named) (c.in-Ok.ensures.empty told) c.write_output-written.ensures.prefix (c.close_out-closed.ensures.held now_told) (c.close_out-closed.ensures.refused now_told))
 
 pub returns-in_default-2-clause-cut : goal.returns-in_default-2-clause-cut
 returns-in_default-2-clause-cut g c = λ told faulty.
     let now_told = c.in-Ok.ensures.tells.1 told in
-    inr (holds_prefix (output_text c.args.origin c.args.line (kept c.args.bodies.now) c.args.sends.now) c.args.name.now _ _ _ (g.H.Shelf.file c.close_out-closed.new.self) c.write_output-written.result.fault c.close_out-closed.result
-    (c.write_output-written.ensures.name ∙ c.in-Ok.ensures.named) (c.in-Ok.ensures.empty told) c.write_output-written.ensures.whole c.write_output-written.ensures.prefix (c.close_out-closed.ensures.held now_told) (c.close_out-closed.ensures.refused now_told))
+    inl (holds_prefix (output_text c.args.origin c.args.line (kept c.args.bodies.now) (take (c.write_output-written.result.count + 1) c.args.sends.now)) c.args.name.now _ _ _ (g.H.Shelf.file c.close_out-closed.new.self) c.close_out-closed.result
+    (c.write_output-written.ensures.name ∙ c.in-Ok.ensures.named) (c.in-Ok.ensures.empty told) c.write_output-written.ensures.prefix (c.close_out-closed.ensures.held now_told) (c.close_out-closed.ensures.refused now_told))

@@ -1,4 +1,4 @@
-use Rattle.std.proofs.Common.{◌≡◌, ◌⊎◌, List, ℕ, Some, Result, Err, length, ap, ◌∙◌, subst}
+use Rattle.std.proofs.Common.{◌≡◌, ◌⊎◌, List, ℕ, ◌+◌, Option, Some, Result, Err, length, take, ap, ◌∙◌, subst}
 use Rattle.std.proofs.lemmas.Result.{err_from_is_err_and}
 use Rattle.std.proofs.lemmas.List.Elements.{All-same}
 use Rattle.qos_base.specs.declared.packet.Pkt.{Pkt}
@@ -39,13 +39,15 @@ returns-clause-outcome g c = λ told bytes held.
     let sends = c.deref-2.ensures.value in
     let text : List (Departure Pkt) → List ℕ = λ ds. output_text input.origin now.line (kept input.bodies) ds in
     let there = c.in-Ok-write_file.ensures in
+    let held_after : Option (List ℕ) = g.H.Shelf.file c.write_file.new.shelf now.output.now in
     let told_then = c.in_ok-input.ensures.tells.1 told in (
       r.0,
       r.1,
-      outcome_is command r.0 input port r.2 (c.in-Ok-drive.ensures.arrivals ∙ c.deref.ensures.value) c.in-Ok-drive.ensures.outcome file c.ended.result (g.H.Shelf.file c.write_file.new.shelf now.output.now) c.in_ok-input.ensures.usable
+      outcome_is command r.0 input port r.2 (c.in-Ok-drive.ensures.arrivals ∙ c.deref.ensures.value) c.in-Ok-drive.ensures.outcome file c.ended.result (g.H.Shelf.file c.args.shelf.now now.output.now) held_after c.in_ok-input.ensures.usable
           (c.in-Ok-drive.ensures.paced ∙ ap (λ ps. (paced_course (plan_of (shaper_of command)) (arrival_time now.line input.origin) (drain_of now.line) ps).journal) c.deref.ensures.value)
           (λ fine. there.whole told_then fine ∙ ap (λ ds. Some (text ds)) sends)
           (λ fine. there.all fine ∙ ap length sends)
-          (λ faulty. subst (λ ds. (file.written ≡ 0) ⊎ HoldsPrefix (text ds) (g.H.Shelf.file c.write_file.new.shelf now.output.now)) sends (there.cut told_then faulty))
+          (λ faulty. subst (λ (before : Option (List ℕ)). HoldsPrefix (text (take (file.written + 1) port.sends.items)) held_after ⊎ ((file.written ≡ 0) × (held_after ≡ before))) (c.in_ok-input.ensures.files now.output.now)
+          (subst (λ ds. HoldsPrefix (text (take (file.written + 1) ds)) held_after ⊎ ((file.written ≡ 0) × (held_after ≡ g.H.Shelf.file c.read_input.new.shelf now.output.now))) sends (there.cut told_then faulty)))
           c.ended.ensures,
     )
