@@ -5,7 +5,7 @@ mod faulty;
 
 use super::*;
 use crate::ended::{Ended, PortCounts};
-use build::{HEADER, Rec, capture, frame, later, records_at, sized, words_of};
+use build::{HEADER, Rec, capture, frame, records_at, words_of};
 use faulty::{Fails, FaultyShelf};
 use qos_io::{MemShelf, MemSink, Shelf, Sink, Source, WholeShelf, WholeSink};
 use std::process::Abort;
@@ -43,27 +43,42 @@ fn counts(numbers: [u64; 7]) -> PortCounts {
     }
 }
 
-// The run of a command that succeeds over these records comes to these numbers, and to this output.
-fn succeeds<R: Sync + AllocGlobal + Abort>(
-    rt: &R,
-    line: &str,
-    records: &[Rec],
-    numbers: [u64; 7],
-    output: &[Rec],
-) -> Result<(), Fail> {
-    let mut shelf = shelf_with(rt, records)?;
+// A run that succeeds, and what it comes to.
+#[derive(Clone, Copy)]
+struct Row<'a> {
+    words: &'a str,
+    records: &'a [Rec],
+    // The port's numbers: arrived, sent, left, turned away, not put, dequeues and time.
+    port: [u64; 7],
+    // How many records are oversize, and how many too long.
+    passed: [u64; 2],
+    output: &'a [Rec],
+}
+
+fn succeeds<R: Sync + AllocGlobal + Abort>(rt: &R, row: &Row<'_>) -> Result<(), Fail> {
+    let words = row.words;
+    let mut shelf = shelf_with(rt, row.records)?;
     let mut said = WholeSink::new(rt.alloc());
-    let ended = run(rt, line, &mut shelf, &mut said)?;
-    assert_eq!(rt; ended.status, 0, "{line}");
-    assert_eq!(rt; said.bytes(), b"status 0\n".as_slice(), "{line}");
-    assert_eq!(rt; ended.write_fault.as_slice(), [false].as_slice(), "{line}");
-    let [port] = ended.ports.as_slice() else {
-        return Err(Fail::from("not one port"));
+    let ended = run(rt, words, &mut shelf, &mut said)?;
+    assert_eq!(rt; ended.status, 0, "{words}");
+    assert_eq!(rt; said.bytes(), b"status 0\n".as_slice(), "{words}");
+    assert_eq!(rt; ended.write_fault.as_slice(), [false].as_slice(), "{words}");
+    let ([port], [input]) = (ended.ports.as_slice(), ended.inputs.as_slice()) else {
+        return Err(Fail::from("not one port and one input"));
     };
-    assert_eq!(rt; port.counts, counts(numbers), "{line}");
-    let written = capture(rt.alloc(), output)?;
+    assert_eq!(rt; port.counts, counts(row.port), "{words}");
+    let [_, sent, left, tailfull, unwritten, _, _] = row.port;
+    assert_eq!(rt;
+        [input.read, input.sent, input.left, input.unwritten],
+        [row.records.len() as u64, sent, left, unwritten],
+        "{words}"
+    );
+    let [oversize, too_long] = row.passed;
+    let reasons = [0, 0, oversize, too_long, 0, 0, tailfull];
+    assert_eq!(rt; input.reasons, reasons, "{words}");
+    let written = capture(rt.alloc(), row.output)?;
     let file = shelf.file("o").ok_or("no output")?;
-    assert_eq!(rt; file, written.as_slice(), "{line}");
+    assert_eq!(rt; file, written.as_slice(), "{words}");
     Ok(())
 }
 
@@ -74,8 +89,9 @@ fn succeeds<R: Sync + AllocGlobal + Abort>(
 // Idle dequeues follow at 924 and at 15 more steps of 65,536 that fit into the drain of 1,000,000.
 #[test]
 fn rows_of_the_command(rt: HostRuntime) -> Result<(), Fail> {
+    let frames = [frame(0); 12];
     let sent = records_at([0, 84, 168, 252, 336, 420, 504, 588, 672, 756, 840]);
-    for (line, times, numbers) in [
+    for (words, times, port) in [
         ("run i o 1000000000 2000000 1 1", 3, [3, 3, 0, 0, 0, 2, 252]),
         (
             "run i o 1000000000 2000 1 1000000000",
@@ -84,15 +100,141 @@ fn rows_of_the_command(rt: HostRuntime) -> Result<(), Fail> {
         ),
         ("run i o 1000000000 2000 1 1", 0, [0, 0, 0, 0, 0, 0, 0]),
     ] {
-        let frames = [frame(0); 12];
-        let output = sent.get(..numbers[1] as usize).ok_or("too many")?;
-        succeeds(
-            &rt,
-            line,
-            frames.get(..times).ok_or("too many")?,
-            numbers,
-            output,
-        )?;
+        let row = Row {
+            words,
+            records: frames.get(..times).ok_or("too many")?,
+            port,
+            passed: [0, 0],
+            output: sent.get(..port[1] as usize).ok_or("too many")?,
+        };
+        succeeds(&rt, &row)?;
+    }
+    Ok(())
+}
+
+const FIRST: Rec = Rec {
+    seconds: 100,
+    nanos: 0,
+    cap: 60,
+    wire: 60,
+};
+
+// 2^50 ns after the first.
+const LATE: Rec = Rec {
+    seconds: 1_125_999,
+    nanos: 906_842_624,
+    cap: 60,
+    wire: 60,
+};
+
+// On a line of 10^9 the drain is 1,000,000, and has 15 steps of 65,536, up to 983,040.
+const ROWS: [Row<'static>; 6] = [
+    // Two frames a second apart: the bucket never comes to the cost of 84. The advance to 1,000,000,000 has
+    // steps of 976,563, of which 1,023 fit.
+    Row {
+        words: "run i o 1000000000 100 1 1099511627776",
+        records: &[
+            FIRST,
+            Rec {
+                seconds: 101,
+                ..FIRST
+            },
+        ],
+        port: [2, 0, 2, 0, 0, 1 + 1023 + 1 + 15, 1_000_983_040],
+        passed: [0, 0],
+        output: &[],
+    },
+    // A stamp before the first one's: its moment is 0, where port time is 84 already, so it goes in the drain.
+    Row {
+        words: "run i o 1000000000 2000000 1 1",
+        records: &[
+            FIRST,
+            Rec {
+                seconds: 50,
+                ..FIRST
+            },
+        ],
+        port: [2, 2, 0, 0, 0, 2, 168],
+        passed: [0, 0],
+        output: &[FIRST, Rec { nanos: 84, ..FIRST }],
+    },
+    // A frame 2^50 ns after the first: the advance to it has steps of 2^40 + 1, of which 1,023 fit.
+    Row {
+        words: "run i o 1000000000 83 1 1",
+        records: &[FIRST, LATE],
+        port: [2, 0, 2, 0, 0, 1 + 1023 + 1 + 15, (1 << 50) + 983_040],
+        passed: [0, 0],
+        output: &[],
+    },
+    // The same after a frame that uses up half of the bucket, and one of cost 224, which the bucket never
+    // holds: a dequeue at port time 84 stands before the 1,023 steps.
+    Row {
+        words: "run i o 1000000000 168 1 1",
+        records: &[
+            FIRST,
+            Rec {
+                cap: 200,
+                wire: 200,
+                ..FIRST
+            },
+            LATE,
+        ],
+        port: [3, 1, 2, 0, 0, 1 + 1024 + 1 + 15, (1 << 50) + 983_040],
+        passed: [0, 0],
+        output: &[FIRST],
+    },
+    // 70 frames at one moment: each arrival is followed by a dequeue at 0, also where it is turned away.
+    Row {
+        words: "run i o 1000000000 83 1 1",
+        records: &[FIRST; 70],
+        port: [70, 0, 64, 6, 0, 70 + 15, 983_040],
+        passed: [0, 0],
+        output: &[],
+    },
+    // Long records: the first and the third are oversize, the second is too long. The fourth costs 1,546, and
+    // the fifth goes at that port time.
+    Row {
+        words: "run i o 1000000000 2000000 1 1",
+        records: &[
+            Rec {
+                wire: 1523,
+                ..FIRST
+            },
+            Rec {
+                cap: 2049,
+                wire: 2049,
+                ..FIRST
+            },
+            Rec {
+                cap: 2048,
+                wire: 2048,
+                ..FIRST
+            },
+            Rec {
+                wire: 1522,
+                ..FIRST
+            },
+            FIRST,
+        ],
+        port: [2, 2, 0, 0, 0, 2, 1630],
+        passed: [2, 1],
+        output: &[
+            Rec {
+                wire: 1522,
+                ..FIRST
+            },
+            Rec {
+                nanos: 1546,
+                ..FIRST
+            },
+        ],
+    },
+];
+
+#[test]
+fn paced_rows(rt: HostRuntime) -> Result<(), Fail> {
+    for row in &ROWS {
+        succeeds(&rt, row)?;
     }
     Ok(())
 }
@@ -141,91 +283,6 @@ fn nothing_is_run(rt: HostRuntime) -> Result<(), Fail> {
     )
 }
 
-// In the first and the last run the bucket never comes to the cost of 84. Each arrival of the last is followed
-// by a dequeue at 0, also where it is turned away. The drain of 1,000,000 has 15 steps of 65,536, up to 983,040.
-#[test]
-fn paced_runs(rt: HostRuntime) -> Result<(), Fail> {
-    // The advance to 1,000,000,000 has steps of 976,563, of which 1,023 fit.
-    let line = "run i o 1000000000 100 1 1099511627776";
-    let records = [frame(0), later(101, 0)];
-    succeeds(
-        &rt,
-        line,
-        &records,
-        [2, 0, 2, 0, 0, 1 + 1023 + 1 + 15, 1_000_983_040],
-        &[],
-    )?;
-
-    // The moment of the second is 0, where port time is 84 already: it goes in the drain.
-    let line = "run i o 1000000000 2000000 1 1";
-    let records = [frame(0), later(50, 0)];
-    succeeds(
-        &rt,
-        line,
-        &records,
-        [2, 2, 0, 0, 0, 2, 168],
-        &records_at([0, 84]),
-    )?;
-
-    let line = "run i o 1000000000 83 1 1";
-    succeeds(
-        &rt,
-        line,
-        &[frame(0); 70],
-        [70, 0, 64, 6, 0, 70 + 15, 983_040],
-        &[],
-    )
-}
-
-// The second frame comes 2^50 ns after the first. The advance to it has steps of 2^40 + 1, of which 1,023 fit.
-#[test]
-fn a_frame_after_a_long_pause(rt: HostRuntime) -> Result<(), Fail> {
-    let line = "run i o 1000000000 83 1 1";
-    let late = later(1_125_999, 906_842_624);
-    let time = (1u64 << 50) + 983_040;
-    succeeds(
-        &rt,
-        line,
-        &[frame(0), late],
-        [2, 0, 2, 0, 0, 1 + 1023 + 1 + 15, time],
-        &[],
-    )?;
-
-    // The first uses up half of the bucket, so a dequeue at port time 84 stands before the 1,023 steps. The
-    // second costs 224, which the bucket never holds.
-    let line = "run i o 1000000000 168 1 1";
-    let records = [frame(0), sized(200, 200), late];
-    let numbers = [3, 1, 2, 0, 0, 1 + 1024 + 1 + 15, time];
-    succeeds(&rt, line, &records, numbers, &[frame(0)])
-}
-
-// The third is oversize and not too long. The fourth costs 1,546, and the fifth goes at that port time.
-#[test]
-fn long_records(rt: HostRuntime) -> Result<(), Fail> {
-    let line = "run i o 1000000000 2000000 1 1";
-    let last = sized(60, 60);
-    let records = [
-        sized(60, 1523),
-        sized(2049, 2049),
-        sized(2048, 2048),
-        sized(60, 1522),
-        last,
-    ];
-    let sent = [sized(60, 1522), frame(1546)];
-    succeeds(&rt, line, &records, [2, 2, 0, 0, 0, 2, 1630], &sent)?;
-    let mut shelf = shelf_with(&rt, &records)?;
-    let ended = run(&rt, line, &mut shelf, &mut WholeSink::new(rt.alloc()))?;
-    let [input] = ended.inputs.as_slice() else {
-        return Err(Fail::from("not one input"));
-    };
-    assert_eq!(rt;
-        [input.read, input.sent, input.left, input.unwritten],
-        [5, 2, 0, 0]
-    );
-    assert_eq!(rt; input.reasons, [0, 0, 2, 1, 0, 0, 0]);
-    Ok(())
-}
-
 // A header of 24 bytes, and three records of 76: only between records is a cut capture whole.
 #[test]
 fn cut_inputs(rt: HostRuntime) -> Result<(), Fail> {
@@ -237,13 +294,18 @@ fn cut_inputs(rt: HostRuntime) -> Result<(), Fail> {
             fails(&rt, line, cut, 6, "status 6\n")?;
         }
     }
+    let frames = [frame(0); 3];
+    let sent = records_at([0, 84, 168]);
     for (records, dequeues, time) in [(0, 0, 0), (1, 1, 84), (2, 2, 168), (3, 2, 252)] {
-        let frames = [frame(0); 3];
-        let frames = frames.get(..records).ok_or("too many")?;
-        let sent = records_at([0, 84, 168]);
-        let sent = sent.get(..records).ok_or("too many")?;
         let n = records as u64;
-        succeeds(&rt, line, frames, [n, n, 0, 0, 0, dequeues, time], sent)?;
+        let row = Row {
+            words: line,
+            records: frames.get(..records).ok_or("too many")?,
+            port: [n, n, 0, 0, 0, dequeues, time],
+            passed: [0, 0],
+            output: sent.get(..records).ok_or("too many")?,
+        };
+        succeeds(&rt, &row)?;
     }
     Ok(())
 }

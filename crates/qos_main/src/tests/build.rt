@@ -32,26 +32,6 @@ pub fn frame(nanos: u32) -> Rec {
     }
 }
 
-/// A frame of 60 bytes that was captured so many seconds and nanoseconds after the start of the stamps.
-pub fn later(seconds: u32, nanos: u32) -> Rec {
-    Rec {
-        seconds,
-        nanos,
-        cap: 60,
-        wire: 60,
-    }
-}
-
-/// A frame of these lengths, captured and original, that was captured at 100 seconds.
-pub fn sized(cap: u32, wire: u32) -> Rec {
-    Rec {
-        seconds: 100,
-        nanos: 0,
-        cap,
-        wire,
-    }
-}
-
 /// Frames of 60 bytes, captured at these nanoseconds after 100 seconds.
 pub fn records_at<const N: usize>(nanos: [u32; N]) -> [Rec; N] {
     nanos.map(frame)
