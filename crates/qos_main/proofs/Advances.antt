@@ -8,6 +8,7 @@ use Rattle.qos_main.specs.Schedule.{schedule_of, arrivals_of}
 use Rattle.qos_main.specs.Paced.{Plan, Course, stands, dequeued_at, moment_after, advance_by, advance}
 use Rattle.qos_main.specs.PortRun.{RunState, course_of, schedule, IsReady}
 use Rattle.qos_main.proofs.Schedules.{arrivals_of-dequeue}
+use Rattle.qos_main.proofs.Choices.{if-le, if-gt, if-lt, if-ge, if-zero, if-some, zero_or_some}
 
 -- what the tests of a next dequeue say
 none_or_some : (b : Bool) (m n : ℕ) → cond b None (Some m) ≡ Some n → (b ≡ false) × (m ≡ n)
@@ -23,10 +24,6 @@ tests_false aim clock waits m is = (grind (arith, nat_tests), grind (arith, nat_
 
 tests_true : (aim clock waits m : ℕ) → (leb aim clock || (eqb waits 0 || ltb aim m)) ≡ true → clock < aim → 0 < waits → aim < m
 tests_true aim clock waits m is below some = grind (arith, nat_tests)
-
-zero_or_some : (n : ℕ) → (n ≡ 0) ⊎ (0 < n)
-zero_or_some zero = inl refl
-zero_or_some (suc n) = inr (omega arith)
 
 pub next-some : (p : PacerState) (waits time n : ℕ) → next_in p waits time ≡ Some n → (p.clock < p.aim) × (0 < waits) × (n ≤ p.aim) × (next_moment p time ≡ n)
 next-some p waits time n is =
@@ -44,24 +41,6 @@ next-none p waits time is =
     (zero_or_some waits)))
     (λ (there : p.aim ≤ p.clock). inl there)
     (cases_lt p.clock p.aim)
-
-if-le : {X : Type 0} (m n : ℕ) (x y : X) → m ≤ n → cond (leb m n) x y ≡ x
-if-le m n x y within = grind (arith, nat_tests)
-
-if-gt : {X : Type 0} (m n : ℕ) (x y : X) → n < m → cond (leb m n) x y ≡ y
-if-gt m n x y above = grind (arith, nat_tests)
-
-if-lt : {X : Type 0} (m n : ℕ) (x y : X) → m < n → cond (ltb m n) x y ≡ x
-if-lt m n x y below = grind (arith, nat_tests)
-
-if-ge : {X : Type 0} (m n : ℕ) (x y : X) → n ≤ m → cond (ltb m n) x y ≡ y
-if-ge m n x y above = grind (arith, nat_tests)
-
-if-zero : {X : Type 0} (m : ℕ) (x y : X) → m ≡ 0 → cond (eqb m 0) x y ≡ x
-if-zero m x y is = grind (arith, nat_tests)
-
-if-some : {X : Type 0} (m : ℕ) (x y : X) → 0 < m → cond (eqb m 0) x y ≡ y
-if-some m x y some = grind (arith, nat_tests)
 
 module _ (plan : Plan) (step to : ℕ) where
   -- the clock at its end

@@ -1,3 +1,4 @@
+pub mod Choices
 pub mod Numbers
 pub mod Seven
 pub mod Adding

@@ -1,6 +1,5 @@
 -- Every open course is live, an advance ends at its aim, and a course's journal only grows.
 use Rattle.std.proofs.Common.{◌≡◌, ◌<◌, ◌≤◌, ℕ, zero, suc, ◌+◌, ◌-◌, ◌*◌, ◌||◌, Bool, true, false, cond, eqb, leb, ltb, min, max, List, [], ◌∷◌, ◌++◌, length, take, fold, refl, sym, ap, ◌∙◌, subst, append_assoc, length-append, arith}
-use Rattle.std.proofs.lemmas.Bool.Decides.{nat_tests}
 use Rattle.std.proofs.lemmas.List.{append-nil}
 use Rattle.std.proofs.lemmas.List.Sums.{sum_by-cons, fold-append}
 use Rattle.qos_base.specs.declared.packet.Pkt.{Pkt}
@@ -13,6 +12,8 @@ use Rattle.qos_main.specs.Schedule.{Schedule, schedule_of}
 use Rattle.qos_main.specs.Paced.{Plan, Course, stands, dequeued_at, moment_after, advance_by, advance, joined_at, arrived, open_course}
 use Rattle.qos_main.specs.Laws.{IsLive, AdvancesMoveOn, OpenJournalsGrow}
 use Rattle.qos_main.proofs.Schedules.{schedule_of-push}
+use Rattle.std.proofs.lemmas.Bool.{cond_both, leb-true, leb-false, ltb-false, ltb-true}
+use Rattle.qos_main.proofs.Choices.{eqb-some}
 
 abbrev carried : Pkt → Pkt
 carried p = p
@@ -36,10 +37,6 @@ visit-time room s =
     let least = total_cost-least front in
     omega (arith, count, least)
 
-cond_of : {X : Type 0} (P : X → Type 0) (b : Bool) (x y : X) → (b ≡ true → P x) → (b ≡ false → P y) → P (cond b x y)
-cond_of P true x y one other = one refl
-cond_of P false x y one other = other refl
-
 -- port time has passed by each packet that was sent since t
 abbrev HasPassed : ℕ → Dequeued Pkt → Type 0
 HasPassed t d = t + 24 * length d.sends ≤ d.state.time
@@ -55,24 +52,9 @@ turn-time (suc visits) room s =
     let at_first = visit-time room s in
     let at_rest = turn-time visits (room - length first.sends) first.state in
     let count = length-append first.sends rest.sends in
-    cond_of (HasPassed s.time) (eqb room 0 || eqb (length s.queue) 0) nothing (cond (eqb (length first.sends) 0) first both)
+    cond_both (eqb room 0 || eqb (length s.queue) 0) nothing (cond (eqb (length first.sends) 0) first both) (HasPassed s.time)
     (λ _. omega arith)
-    (λ _. cond_of (HasPassed s.time) (eqb (length first.sends) 0) first both (λ _. at_first) (λ _. omega (arith, at_first, at_rest, count)))
-
-le_when : (m n : ℕ) → leb m n ≡ true → m ≤ n
-le_when m n is = grind (arith, nat_tests)
-
-gt_when : (m n : ℕ) → leb m n ≡ false → n < m
-gt_when m n is = grind (arith, nat_tests)
-
-ge_when : (m n : ℕ) → ltb m n ≡ false → n ≤ m
-ge_when m n is = grind (arith, nat_tests)
-
-some_when : (n : ℕ) → eqb n 0 ≡ false → 0 < n
-some_when n is = grind (arith, nat_tests)
-
-lt_when : (m n : ℕ) → ltb m n ≡ true → m < n
-lt_when m n is = grind (arith, nat_tests)
+    (λ _. cond_both (eqb (length first.sends) 0) first both (HasPassed s.time) (λ _. at_first) (λ _. omega (arith, at_first, at_rest, count)))
 
 module _ (plan : Plan) where
   dequeued-live : (c : Course) (now : ℕ) → IsLive plan (dequeued_at plan now c)
@@ -81,15 +63,15 @@ module _ (plan : Plan) where
       subst (λ (s : Schedule). 0 < length s.port.queue → s.went ≡ true → now < s.port.time) (sym (schedule_of-push plan.shaper c.journal (Dequeue now plan.burst)))
       (λ waits told.
       let passed = turn-time plan.burst plan.burst (record port { time = max port.time now }) in
-      let some = lt_when 0 (length (turn carried plan.burst plan.burst (record port { time = max port.time now })).sends) told in
+      let some = ltb-true 0 (length (turn carried plan.burst plan.burst (record port { time = max port.time now })).sends) told in
       omega (arith, passed, some))
 
   joined-live : (p : Pkt) (c : Course) → IsLive plan (joined_at plan p c)
   joined-live p c =
       let there : Course = record c { journal = c.journal ++ Arrive p ∷ [] } in
-      cond_of (IsLive plan) (leb (stands plan there).port.time there.clock) (dequeued_at plan there.clock there) there
+      cond_both (leb (stands plan there).port.time there.clock) (dequeued_at plan there.clock there) there (IsLive plan)
       (λ _. dequeued-live there there.clock)
-      (λ no waits told. gt_when (stands plan there).port.time there.clock no)
+      (λ no waits told. leb-false (stands plan there).port.time there.clock no)
 
   fold-live : (byte_time : Pkt → ℕ) (c : Course) (ps : List Pkt) → IsLive plan c → IsLive plan (fold (λ c p. arrived plan (byte_time p) p c) c ps)
   fold-live byte_time c [] live = live
@@ -111,17 +93,17 @@ module _ (plan : Plan) where
       let at_to : Course = record c { clock = to } in
       let more = advance_by plan step to times (dequeued_at plan m c) in
       let IsThere : Course → Type 0 = λ d. d.clock ≡ max c.clock to in
-      cond_of IsThere (leb to c.clock) c (cond (eqb queue 0) at_to (cond (ltb to m) at_to more))
-      (λ yes. let there = le_when to c.clock yes in omega (arith, there))
+      cond_both (leb to c.clock) c (cond (eqb queue 0) at_to (cond (ltb to m) at_to more)) IsThere
+      (λ yes. let there = leb-true to c.clock yes in omega (arith, there))
       (λ no.
-      let ahead = gt_when to c.clock no in
-      cond_of IsThere (eqb queue 0) at_to (cond (ltb to m) at_to more)
+      let ahead = leb-false to c.clock no in
+      cond_both (eqb queue 0) at_to (cond (ltb to m) at_to more) IsThere
       (λ _. omega (arith, ahead))
-      (λ waits. cond_of IsThere (ltb to m) at_to more
+      (λ waits. cond_both (ltb to m) at_to more IsThere
       (λ _. omega (arith, ahead))
       (λ within.
-      let in_time = ge_when to m within in
-      let on = next-later c step live some (some_when queue waits) in
+      let in_time = ltb-false to m within in
+      let on = next-later c step live some (eqb-some queue waits) in
       let rest = arrives-by step to times (dequeued_at plan m c) some (dequeued-live c m) (omega (arith, enough, on)) in
       omega (arith, ahead, in_time, rest))))
 
@@ -153,11 +135,11 @@ module _ (plan : Plan) where
       let at_to : Course = record c { clock = to } in
       let next = dequeued_at plan m c in
       let more = advance_by plan step to times next in
-      cond_of (Grows c) (leb to c.clock) c (cond (eqb queue 0) at_to (cond (ltb to m) at_to more))
+      cond_both (leb to c.clock) c (cond (eqb queue 0) at_to (cond (ltb to m) at_to more)) (Grows c)
       (λ _. Grows-refl c c refl)
-      (λ _. cond_of (Grows c) (eqb queue 0) at_to (cond (ltb to m) at_to more)
+      (λ _. cond_both (eqb queue 0) at_to (cond (ltb to m) at_to more) (Grows c)
       (λ _. Grows-refl c at_to refl)
-      (λ _. cond_of (Grows c) (ltb to m) at_to more
+      (λ _. cond_both (ltb to m) at_to more (Grows c)
       (λ _. Grows-refl c at_to refl)
       (λ _. Grows-trans c next more (Dequeue m plan.burst ∷ [], refl) (advance_by-grows step to times next))))
 
@@ -165,7 +147,7 @@ module _ (plan : Plan) where
   joined-grows p c =
       let there : Course = record c { journal = c.journal ++ Arrive p ∷ [] } in
       let next = dequeued_at plan there.clock there in
-      cond_of (Grows c) (leb (stands plan there).port.time there.clock) next there
+      cond_both (leb (stands plan there).port.time there.clock) next there (Grows c)
       (λ _. Grows-trans c there next (Arrive p ∷ [], refl) (Dequeue there.clock plan.burst ∷ [], refl))
       (λ _. (Arrive p ∷ [], refl))
 

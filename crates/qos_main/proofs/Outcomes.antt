@@ -1,5 +1,5 @@
 -- What was read, scheduled and written is the outcome of the command.
-use Rattle.std.proofs.Common.{◌≡◌, ◌<◌, ◌≤◌, ◌⊎◌, ℕ, ◌+◌, Bool, true, false, cond, List, [], ◌∷◌, ◌++◌, length, take, map, sum, get_or, Option, Some, All, refl, sym, ap, ◌∙◌, subst, inl, inr, ⊎_elim, append_assoc, length-append, arith}
+use Rattle.std.proofs.Common.{◌≡◌, ◌<◌, ◌≤◌, ◌⊎◌, ℕ, ◌+◌, true, false, cond, List, [], ◌∷◌, ◌++◌, length, take, map, sum, get_or, Option, Some, All, refl, sym, ap, ◌∙◌, subst, inl, inr, ⊎_elim, append_assoc, length-append, arith}
 use Rattle.std.specs.List.Sorted.{IsPermutation}
 use Rattle.std.specs.List.{count_by}
 use Rattle.std.specs.List.{slice_index_or}
@@ -30,10 +30,7 @@ use Rattle.qos_main.specs.Run.{shaper_of, arrival_time, drain_of, paced_journal}
 use Rattle.qos_main.specs.Output.{output_text, kept, IsWritable}
 use Rattle.qos_main.specs.Top.{origin_in, output_of, sends_of, HasCounts, IsAccount, IsOutcome, IsCountOf, IsEndOf, PutsTogether}
 use Rattle.qos_main.proofs.Outputs.{output_text-same}
-
-if-true : {X : Type 0} (b : Bool) (x y : X) → b ≡ true → cond b x y ≡ x
-if-true true x y is = refl
-if-true false x y is = cc
+use Rattle.std.proofs.lemmas.Bool.{cond-true, cond-false, cases_Bool}
 
 -- an admitted packet finds the body of its record among the bodies that were kept
 abbrev FindsBody : List Record → Pkt → Type 0
@@ -45,17 +42,9 @@ at_place before r after is =
     let all : Record → List ℕ = λ s. s.body in
     ap (λ bs. get_or bs (length before) []) (map-append keep before (r ∷ after))
     ∙ get_or_at (map keep before) (keep r) (map keep after) [] (length before) (length-map before keep)
-    ∙ if-true (has_fate Admitted r) r.body [] is
+    ∙ cond-true (has_fate Admitted r) r.body [] is
     ∙ sym (ap (λ bs. get_or bs (length before) []) (map-append all before (r ∷ after))
     ∙ get_or_at (map all before) (all r) (map all after) [] (length before) (length-map before all))
-
-true_or_false : (b : Bool) → (b ≡ true) ⊎ (b ≡ false)
-true_or_false true = inl refl
-true_or_false false = inr refl
-
-if-false : {X : Type 0} (b : Bool) (x y : X) → b ≡ false → cond b x y ≡ y
-if-false false x y is = refl
-if-false true x y is = cc
 
 find_from : (before after : List Record) → All (FindsBody (before ++ after)) (admitted_from (length before) after)
 find_from before [] = All-nil (FindsBody (before ++ []))
@@ -68,11 +57,11 @@ find_from before (r ∷ after) =
     (subst (λ (rs : List Record). All (FindsBody rs) (admitted_from (length one_more) after)) (append_assoc before (r ∷ []) after) (find_from one_more after)) in
     ⊎_elim
     (λ (is : has_fate Admitted r ≡ true).
-    All-same P _ _ (if-true (has_fate Admitted r) (packet_of (length before) r ∷ admitted_from (length before + 1) after) (admitted_from (length before + 1) after) is)
+    All-same P _ _ (cond-true (has_fate Admitted r) (packet_of (length before) r ∷ admitted_from (length before + 1) after) (admitted_from (length before + 1) after) is)
     (All-cons P (packet_of (length before) r) (admitted_from (length before + 1) after) (at_place before r after is) rest))
     (λ (not : has_fate Admitted r ≡ false).
-    All-same P _ _ (if-false (has_fate Admitted r) (packet_of (length before) r ∷ admitted_from (length before + 1) after) (admitted_from (length before + 1) after) not) rest)
-    (true_or_false (has_fate Admitted r))
+    All-same P _ _ (cond-false (has_fate Admitted r) (packet_of (length before) r ∷ admitted_from (length before + 1) after) (admitted_from (length before + 1) after) not) rest)
+    (cases_Bool (has_fate Admitted r))
 
 pub finds_bodies : (records : List Record) → All (FindsBody records) (admitted records)
 finds_bodies records = find_from [] records

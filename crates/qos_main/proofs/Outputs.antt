@@ -1,5 +1,5 @@
 -- What is put of an output, a send at a time.
-use Rattle.std.proofs.Common.{◌≡◌, ◌<◌, ◌≤◌, ℕ, zero, suc, ◌+◌, List, [], ◌∷◌, ◌++◌, length, take, get_or, slice_get, slice_index_or, All, IfNone, IfSome, Option, Some, None, refl, sym, ap, subst, ◌∙◌, inl, inr, arith, zero-add, suc-add, length-append}
+use Rattle.std.proofs.Common.{◌≡◌, ◌<◌, ◌≤◌, ℕ, zero, suc, ◌+◌, List, [], ◌∷◌, ◌++◌, length, take, get_or, slice_index_or, All, IfNone, IfSome, Option, Some, None, refl, sym, ap, subst, ◌∙◌, inl, inr, arith, zero-add, suc-add}
 use Rattle.std.specs.List.{flat_map}
 use Rattle.std.proofs.lemmas.Bool.{cases_lt}
 use Rattle.std.proofs.lemmas.Grind.{flat_map-append}

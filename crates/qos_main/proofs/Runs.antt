@@ -1,12 +1,10 @@
 -- The run of a port stays sound.
-use Rattle.std.proofs.Common.{◌≡◌, ◌<◌, ◌≤◌, ◌^◌, ℕ, ◌+◌, ◌*◌, Bool, true, false, cond, ◌↔◌, Result, Ok, Err, max, List, [], ◌∷◌, ◌++◌, length, nat_lt, refl, sym, ap, ◌∙◌, subst, ⊎_elim, append_assoc, length-append, arith}
-use borrow.Author.Tests.{ltb-true}
+use Rattle.std.proofs.Common.{◌≡◌, ◌<◌, ◌≤◌, ◌^◌, ℕ, ◌+◌, ◌*◌, Bool, true, false, ◌↔◌, Result, Ok, Err, max, List, [], ◌∷◌, ◌++◌, length, nat_lt, refl, sym, ap, ◌∙◌, subst, ⊎_elim, append_assoc, length-append, arith}
 use Rattle.std.specs.List.Sorted.{IsPermutation}
 use Rattle.std.proofs.lemmas.List.{length-map}
 use Rattle.std.proofs.lemmas.List.Sorted.{length_permutation, IsPermutation-refl, IsPermutation-trans, IsPermutation-append_left, IsPermutation-append_right, IsPermutation-to_front}
-use Rattle.std.proofs.lemmas.Bool.{cases_lt, false≢true}
+use Rattle.std.proofs.lemmas.Bool.{cases_lt, false≢true, ltb-true}
 use mir.Val.{bool_byte}
-use Rattle.std.proofs.lemmas.Bool.Decides.{nat_tests}
 use Rattle.std.specs.Result.{IsOk, OnOk, IfErr, is_err}
 use Rattle.qos_base.specs.declared.packet.Pkt.{Pkt}
 use Rattle.qos_base.specs.declared.packet.Departure.{Departure}
@@ -19,6 +17,7 @@ use Rattle.qos_main.specs.Schedule.{Schedule, after_entry, schedule_of, arrivals
 use Rattle.qos_main.specs.Pacer.{PacerState}
 use Rattle.qos_main.specs.PortRun.{RunState, IsSound, parcels}
 use Rattle.qos_main.proofs.Schedules.{schedule_of-push, arrivals_of-dequeue, dequeues_in-dequeue, arrivals_of-arrive, dequeues_in-arrive}
+use Rattle.qos_main.proofs.Choices.{if-lt, if-ge}
 
 -- a run by what a contract sees of it
 abbrev pub run_of : Shaper → List Entry → PacerState → RunState
@@ -38,12 +37,6 @@ sends-few port went journal sends arrived dropped dequeues sound =
     let inner = length-append (parcels sends) port.queue in
     let sent = length-map sends (λ (d : Departure Pkt). d.parcel) in
     omega (arith, total, outer, inner, sent, sound.arrived_is)
-
-if-lt : {X : Type 0} (m n : ℕ) (x y : X) → m < n → cond (nat_lt m n) x y ≡ x
-if-lt m n x y below = grind (arith, nat_tests)
-
-if-ge : {X : Type 0} (m n : ℕ) (x y : X) → n ≤ m → cond (nat_lt m n) x y ≡ y
-if-ge m n x y above = grind (arith, nat_tests)
 
 not_lt : (m n : ℕ) → (m < n → ⊥) → n ≤ m
 not_lt m n not_below = ⊎_elim (λ (below : m < n). absurd (not_below below)) (λ (above : n ≤ m). above) (cases_lt m n)

@@ -1,22 +1,12 @@
 -- The statuses of a run, before and after its report.
-use Rattle.std.proofs.Common.{◌≡◌, ◌<◌, ◌⊎◌, ℕ, zero, suc, List, [], ◌∷◌, Option, get_or, cond, eqb, refl, sym, ◌∙◌, subst, inl, inr, ⊎_elim, arith}
-use Rattle.std.proofs.lemmas.Bool.Decides.{nat_tests}
+use Rattle.std.proofs.Common.{◌≡◌, ◌<◌, ◌⊎◌, ℕ, zero, suc, List, [], ◌∷◌, Option, get_or, sym, ◌∙◌, subst, inl, inr, ⊎_elim, arith}
 use Rattle.qos_io.specs.Fault.{HasRisen}
 use Rattle.qos_pcap.specs.Format.{Record}
 use Rattle.qos_main.specs.declared.ended.Ended.{Ended}
 use Rattle.qos_main.specs.Words.{Command}
 use Rattle.qos_main.specs.Report.{Reports, told, failed, out_of_memory}
 use Rattle.qos_main.specs.Top.{IsStatus, IsRun, IsOutcome}
-
-if-zero : (m : ℕ) (x y : ℕ) → m ≡ 0 → cond (eqb m 0) x y ≡ x
-if-zero m x y is = grind (arith, nat_tests)
-
-if-some : (m : ℕ) (x y : ℕ) → 0 < m → cond (eqb m 0) x y ≡ y
-if-some m x y some = grind (arith, nat_tests)
-
-zero_or_some : (n : ℕ) → (n ≡ 0) ⊎ (0 < n)
-zero_or_some zero = inl refl
-zero_or_some (suc n) = inr (omega arith)
+use Rattle.qos_main.proofs.Choices.{if-zero, if-some, zero_or_some}
 
 -- a report leaves the status, or makes 5 of 0 where its sink failed, or 7
 abbrev pub After : ℕ → ℕ → ℕ → ℕ → Type 0

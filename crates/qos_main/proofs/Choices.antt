@@ -1,0 +1,28 @@
+-- A choice by a comparison of two numbers.
+use Rattle.std.proofs.Common.{◌≡◌, ◌<◌, ◌≤◌, ◌⊎◌, ℕ, zero, suc, false, cond, eqb, leb, ltb, refl, inl, inr, arith}
+use Rattle.std.proofs.lemmas.Bool.Decides.{nat_tests}
+
+pub if-le : {X : Type 0} (m n : ℕ) (x y : X) → m ≤ n → cond (leb m n) x y ≡ x
+if-le m n x y within = grind (arith, nat_tests)
+
+pub if-gt : {X : Type 0} (m n : ℕ) (x y : X) → n < m → cond (leb m n) x y ≡ y
+if-gt m n x y above = grind (arith, nat_tests)
+
+pub if-lt : {X : Type 0} (m n : ℕ) (x y : X) → m < n → cond (ltb m n) x y ≡ x
+if-lt m n x y below = grind (arith, nat_tests)
+
+pub if-ge : {X : Type 0} (m n : ℕ) (x y : X) → n ≤ m → cond (ltb m n) x y ≡ y
+if-ge m n x y above = grind (arith, nat_tests)
+
+pub if-zero : {X : Type 0} (m : ℕ) (x y : X) → m ≡ 0 → cond (eqb m 0) x y ≡ x
+if-zero m x y is = grind (arith, nat_tests)
+
+pub if-some : {X : Type 0} (m : ℕ) (x y : X) → 0 < m → cond (eqb m 0) x y ≡ y
+if-some m x y some = grind (arith, nat_tests)
+
+pub zero_or_some : (n : ℕ) → (n ≡ 0) ⊎ (0 < n)
+zero_or_some zero = inl refl
+zero_or_some (suc n) = inr (omega arith)
+
+pub eqb-some : (n : ℕ) → eqb n 0 ≡ false → 0 < n
+eqb-some n is = grind (arith, nat_tests)
