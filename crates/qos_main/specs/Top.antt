@@ -31,11 +31,6 @@ use Rattle.qos_main.specs.Output.{output_text}
 abbrev pub asked : List (String Global) → Option Command
 asked words = command_of (map string_bytes words)
 
--- a command of these names and numbers
-abbrev pub named : List ℕ → List ℕ → ℕ → ℕ → ℕ → ℕ → Command
-named input output line size credits period =
-    record { input = input; output = output; line = line; size = size; credits = credits; period = period }
-
 -- the origin of an input with these records
 abbrev pub origin_in : List Record → ℕ
 origin_in records = origin_of (first_stamp records ∷ [])

@@ -4,7 +4,7 @@ ghost use Rattle.qos_base.specs.Time.{IsLineRate};
 ghost use Rattle.qos_io.specs.Fault.{HasRisen};
 ghost use Rattle.qos_pcap.specs.Format.{Record};
 ghost use Rattle.qos_pcap.specs.Reads.{IsWholeCapture};
-ghost use Rattle.qos_main.specs.Top.{IsOutcome, IsDone, PutsTogether, IsCountOf, IsEndOf, HasRoom, asked, named, fault_status, IsStatus, IsRun, IsRefusal, IsEmptyEnd};
+ghost use Rattle.qos_main.specs.Top.{IsOutcome, IsDone, PutsTogether, IsCountOf, IsEndOf, HasRoom, asked, fault_status, IsStatus, IsRun, IsRefusal, IsEmptyEnd};
 ghost use Rattle.qos_main.specs.Words.{Command as Asked};
 ghost use Rattle.qos_main.specs.Report.{Reports};
 
@@ -118,17 +118,17 @@ fn run<H: Shelf>(alloc: Global, command: &Command<'_>, shelf: &mut H) -> Result<
     requires size { (1 ≤ command.now.size) × (command.now.size ≤ 2 ^ 40) }
     requires credits { (1 ≤ command.now.credits) × (command.now.credits ≤ 2 ^ 40) }
     requires period { (1 ≤ command.now.period) × (command.now.period ≤ 2 ^ 40) }
-    requires names { command.now.input.now ≢ command.now.output.now }
+    requires names { command.now.input ≢ command.now.output }
 
-    ensures outcome { H.Tells shelf.old → IfOk result (λ ended. (bytes : List ℕ) → H.file shelf.old command.now.input.now ≡ Some bytes
-        → (records : List Record) × IsWholeCapture 2000000000 bytes records × IsOutcome (named command.now.input.now command.now.output.now command.now.line command.now.size command.now.credits command.now.period) records (H.file shelf.old command.now.output.now) (H.file shelf.new command.now.output.now) ended) }
+    ensures outcome { H.Tells shelf.old → IfOk result (λ ended. (bytes : List ℕ) → H.file shelf.old command.now.input ≡ Some bytes
+        → (records : List Record) × IsWholeCapture 2000000000 bytes records × IsOutcome command.now records (H.file shelf.old command.now.output) (H.file shelf.new command.now.output) ended) }
     ensures done { IfOk result IsDone }
-    ensures write { IfOk result (λ ended. ended.status ≡ 5 → H.IsSureToWrite shelf.old command.now.output.now → ⊥) }
+    ensures write { IfOk result (λ ended. ended.status ≡ 5 → H.IsSureToWrite shelf.old command.now.output → ⊥) }
 
-    ensures read { IsErrOf result InputFault.Read → H.IsSureToRead shelf.old command.now.input.now → ⊥ }
-    ensures form { IsErrOf result InputFault.Form → H.Tells shelf.old → (bytes : List ℕ) (records : List Record) → H.file shelf.old command.now.input.now ≡ Some bytes → IsWholeCapture 2000000000 bytes records → ⊥ }
+    ensures read { IsErrOf result InputFault.Read → H.IsSureToRead shelf.old command.now.input → ⊥ }
+    ensures form { IsErrOf result InputFault.Form → H.Tells shelf.old → (bytes : List ℕ) (records : List Record) → H.file shelf.old command.now.input ≡ Some bytes → IsWholeCapture 2000000000 bytes records → ⊥ }
     ensures nothing_created { (result ≡ Err InputFault.Memory → ⊥) → IsErr result → (n : List ℕ) → H.file shelf.new n ≡ H.file shelf.old n }
-    ensures files { (n : List ℕ) → n ≢ command.now.output.now → H.file shelf.new n ≡ H.file shelf.old n }
+    ensures files { (n : List ℕ) → n ≢ command.now.output → H.file shelf.new n ≡ H.file shelf.old n }
 {
     let input = read_input(alloc, shelf, command.input)?;
     let Ok(lists) = Lists::reserve(alloc) else {

@@ -1,11 +1,13 @@
 //! The words of the command line.
-ghost use Rattle.std.specs.Prelude.{◌≡◌, ◌≢◌, ◌≤◌, ◌^◌, map, IfSome, MatchOption, string_bytes};
+ghost use Rattle.std.specs.Prelude.{◌≡◌, ◌≢◌, ◌≤◌, ◌^◌, map, IfSome, string_bytes};
 ghost use Rattle.std.specs.Char.{is_ascii_digit};
 ghost use Rattle.std.specs.List.{list_all};
 ghost use Rattle.qos_main.specs.Words.{is_number, number_of, within, is_name, begins_run, command_with, line_of, bucket_number_of, command_of};
 
+use std::marker::Model;
+
 /// A run that the command line asks for: one capture through the token bucket of one line.
-#[derive(Clone, Copy, Debug)]
+#[derive(Drop)]
 pub struct Command<'a> {
     /// The name of the capture to read.
     pub input: &'a str,
@@ -21,18 +23,26 @@ pub struct Command<'a> {
     pub period: u64,
 }
 
+impl<'a> Model for Command<'a> {
+    ghost use Rattle.qos_main.specs.Words.{Command as Asked};
+
+    ghost Value = { Asked };
+
+    ghost view = { λ c. record { input = c.input.now; output = c.output.now; line = c.line; size = c.size; credits = c.credits; period = c.period } };
+}
+
 /// The command that the words after the program's name ask for. They are just the seven words
 /// `run IN OUT LINE SIZE CREDITS PERIOD`; anything else is `None`, a faulty command line.
 ///
 /// The two names are not empty, do not begin with `-` and differ. The four numbers are 1 to 20
 /// decimal digits and keep the ranges that [`Command`] gives. No memory is taken.
 pub fn read_command(words: &[String]) -> Option<Command<'_>>
-    ensures exact { MatchOption result (command_of (map string_bytes words.now) ≡ None) (λ c. command_of (map string_bytes words.now) ≡ Some (record { input = c.input.now; output = c.output.now; line = c.line; size = c.size; credits = c.credits; period = c.period })) }
+    ensures exact { result ≡ command_of (map string_bytes words.now) }
     ensures line { IfSome result (λ c. (1000000 ≤ c.line) × (c.line ≤ 12500000000)) }
     ensures size { IfSome result (λ c. (1 ≤ c.size) × (c.size ≤ 2 ^ 40)) }
     ensures credits { IfSome result (λ c. (1 ≤ c.credits) × (c.credits ≤ 2 ^ 40)) }
     ensures period { IfSome result (λ c. (1 ≤ c.period) × (c.period ≤ 2 ^ 40)) }
-    ensures names { IfSome result (λ c. c.input.now ≢ c.output.now) }
+    ensures names { IfSome result (λ c. c.input ≢ c.output) }
 {
     if words.len() != 7 {
         return None;
@@ -61,13 +71,12 @@ struct Numbers<'a> {
 
 fn with_numbers<'a>(input: &'a str, output: &'a str, words: Numbers<'_>) -> Option<Command<'a>>
     requires { input.now ≢ output.now }
-    ensures exact { let asked = command_with input.now output.now (line_of words.entry.line.now) (bucket_number_of words.entry.size.now) (bucket_number_of words.entry.credits.now) (bucket_number_of words.entry.period.now) in
-        MatchOption result (asked ≡ None) (λ c. asked ≡ Some (record { input = c.input.now; output = c.output.now; line = c.line; size = c.size; credits = c.credits; period = c.period })) }
+    ensures exact { result ≡ command_with input.now output.now (line_of words.entry.line.now) (bucket_number_of words.entry.size.now) (bucket_number_of words.entry.credits.now) (bucket_number_of words.entry.period.now) }
     ensures line { IfSome result (λ c. (1000000 ≤ c.line) × (c.line ≤ 12500000000)) }
     ensures size { IfSome result (λ c. (1 ≤ c.size) × (c.size ≤ 2 ^ 40)) }
     ensures credits { IfSome result (λ c. (1 ≤ c.credits) × (c.credits ≤ 2 ^ 40)) }
     ensures period { IfSome result (λ c. (1 ≤ c.period) × (c.period ≤ 2 ^ 40)) }
-    ensures names { IfSome result (λ c. c.input.now ≢ c.output.now) }
+    ensures names { IfSome result (λ c. c.input ≢ c.output) }
 {
     let line = read_number(words.line, 1_000_000, 12_500_000_000)?;
     let size = read_bucket_number(words.size)?;

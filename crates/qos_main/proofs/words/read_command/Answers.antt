@@ -1,10 +1,10 @@
-use Rattle.std.proofs.Common.{◌≡◌, [], ◌∷◌, true, false, map, string_bytes, ap, ◌∙◌, arith, rules}
+use Rattle.std.proofs.Common.{◌≡◌, [], ◌∷◌, true, false, map, string_bytes, sym, ap, ◌∙◌, arith, rules}
 use Rattle.qos_main.specs.Words.{begins_run, command_of}
 use Rattle.qos_main.proofs.Seven.{other_count, seven, begun, not_begun, names_differ}
 use Rattle.qos_main.proofs.words.read_command.Goals as goal
 
 pub returns-then-words-ne7-clause-exact : goal.returns-then-words-ne7-clause-exact
-returns-then-words-ne7-clause-exact c = other_count string_bytes c.args.words.now (omega arith)
+returns-then-words-ne7-clause-exact c = sym (other_count string_bytes c.args.words.now (omega arith))
 
 pub with_numbers-requires : goal.with_numbers-requires
 with_numbers-requires c =
@@ -13,7 +13,7 @@ with_numbers-requires c =
 pub returns-then-not-begins_run-clause-exact : goal.returns-then-not-begins_run-clause-exact
 returns-then-not-begins_run-clause-exact c =
     let no : begins_run (string_bytes c.index-words-0.result) (string_bytes c.index-words-1.result) (string_bytes c.index-words-2.result) ≡ false = cc in
-    not_begun string_bytes c.args.words.now _ _ _ c.index-words-0.is c.index-words-1.is c.index-words-2.is no
+    sym (not_begun string_bytes c.args.words.now _ _ _ c.index-words-0.is c.index-words-1.is c.index-words-2.is no)
 
 pub returns-clause-exact : goal.returns-clause-exact
 returns-clause-exact c =
