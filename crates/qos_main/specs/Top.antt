@@ -8,6 +8,7 @@ use Rattle.qos_base.specs.Time.{origin_of}
 use Rattle.qos_io.specs.Bytes.{HoldsPrefix}
 use Rattle.qos_pcap.specs.declared.fault.Stop.TheVariants.{End}
 use Rattle.qos_pcap.specs.Format.{Record}
+use Rattle.qos_pcap.specs.Reads.{IsWholeCapture}
 use Rattle.qos_main.specs.declared.input.Input.{Input}
 use Rattle.qos_main.specs.declared.input.InputFault.{InputFault}
 use Rattle.qos_main.specs.declared.input.InputFault.TheVariants.{Read, Form, Memory}
@@ -86,6 +87,11 @@ pub record IsOutcome (command : Command) (records : List Record) (before file : 
   -- After one it is a first part of its text, up to the record after those counted as sent at the most, or it was not
   -- created: nothing was sent, and the file is as it was.
   pub cut : fault ≡ true → HoldsPrefix (output_of command records (take (port.counts.sent + 1) (sends_of command port.journal))) file ⊎ ((port.counts.sent ≡ 0) × (file ≡ before))
+
+-- the bytes of the input are a whole capture of at most 2,000,000,000 records, and over these the run came to this
+abbrev pub IsRunOver : Command → List ℕ → Option (List ℕ) → Option (List ℕ) → Ended → Type 0
+IsRunOver command bytes before file ended =
+    (records : List Record) × IsWholeCapture 2000000000 bytes records × IsOutcome command records before file ended
 
 -- the lists of an end, empty and with room for one place each
 pub record HasRoom (lists : Lists) : Type 0 where

@@ -1,6 +1,7 @@
 -- The command line: what the words after the program's name ask for.
-use Rattle.std.specs.Prelude.{ℕ, ◌+◌, ◌-◌, ◌*◌, ◌^◌, Bool, false, not, ◌&&◌, ◌==◌, nat_le, if◌then◌else◌, codes, List, [], ◌∷◌, length, Option, None, Some}
+use Rattle.std.specs.Prelude.{◌≢◌, ◌≤◌, ℕ, ◌+◌, ◌-◌, ◌*◌, ◌^◌, Bool, false, not, ◌&&◌, ◌==◌, nat_le, if◌then◌else◌, codes, List, [], ◌∷◌, length, Option, None, Some}
 use Rattle.std.specs.List.{list_all}
+use Rattle.qos_base.specs.Time.{IsLineRate}
 use Rattle.std.specs.Char.{is_ascii_digit}
 use Rattle.std.specs.Str.{bytes_eq}
 
@@ -12,6 +13,14 @@ pub record Command : Type 0 where
   pub size : ℕ
   pub credits : ℕ
   pub period : ℕ
+
+-- a command keeps the rules: its numbers are in their ranges, and its names differ
+pub record KeepsRules (c : Command) : Type 0 where
+  pub line : IsLineRate c.line
+  pub size : (1 ≤ c.size) × (c.size ≤ 2 ^ 40)
+  pub credits : (1 ≤ c.credits) × (c.credits ≤ 2 ^ 40)
+  pub period : (1 ≤ c.period) × (c.period ≤ 2 ^ 40)
+  pub names : c.input ≢ c.output
 
 -- a word is a number: 1 to 20 decimal digits
 abbrev pub is_number : List ℕ → Bool

@@ -1,11 +1,10 @@
 //! The call that the program makes: a command, from its words to its report.
-ghost use Rattle.std.specs.Prelude.{◌≡◌, ◌≢◌, ◌≤◌, ◌⊎◌, ◌^◌, ℕ, List, [], ◌∷◌, Some, None, true, false, length, IfOk, IsErr, IsErrOf};
-ghost use Rattle.qos_base.specs.Time.{IsLineRate};
+ghost use Rattle.std.specs.Prelude.{◌≡◌, ◌≢◌, ◌≤◌, ◌⊎◌, ℕ, List, [], ◌∷◌, Some, None, true, false, length, IfOk, IsErr, IsErrOf};
 ghost use Rattle.qos_io.specs.Fault.{HasRisen};
 ghost use Rattle.qos_pcap.specs.Format.{Record};
 ghost use Rattle.qos_pcap.specs.Reads.{IsWholeCapture};
-ghost use Rattle.qos_main.specs.Top.{IsOutcome, IsDone, PutsTogether, IsCountOf, IsEndOf, HasRoom, asked, fault_status, IsStatus, IsRun, IsRefusal, IsEmptyEnd};
-ghost use Rattle.qos_main.specs.Words.{Command as Asked};
+ghost use Rattle.qos_main.specs.Top.{IsRunOver, IsDone, PutsTogether, IsCountOf, IsEndOf, HasRoom, asked, fault_status, IsStatus, IsRun, IsRefusal, IsEmptyEnd};
+ghost use Rattle.qos_main.specs.Words.{Command as Asked, KeepsRules};
 ghost use Rattle.qos_main.specs.Report.{Reports};
 
 use crate::drive::{Shaping, drive};
@@ -114,14 +113,10 @@ fn ended(alloc: Global, lists: Lists, input: &Input, port: PortOutcome, file: Ou
 
 // Runs a command: the whole input is read, its packets are scheduled, and the output is written.
 fn run<H: Shelf>(alloc: Global, command: &Command<'_>, shelf: &mut H) -> Result<Ended, InputFault>
-    requires line { IsLineRate command.now.line }
-    requires size { (1 ≤ command.now.size) × (command.now.size ≤ 2 ^ 40) }
-    requires credits { (1 ≤ command.now.credits) × (command.now.credits ≤ 2 ^ 40) }
-    requires period { (1 ≤ command.now.period) × (command.now.period ≤ 2 ^ 40) }
-    requires names { command.now.input ≢ command.now.output }
+    requires { KeepsRules command.now }
 
     ensures outcome { H.Tells shelf.old → IfOk result (λ ended. (bytes : List ℕ) → H.file shelf.old command.now.input ≡ Some bytes
-        → (records : List Record) × IsWholeCapture 2000000000 bytes records × IsOutcome command.now records (H.file shelf.old command.now.output) (H.file shelf.new command.now.output) ended) }
+        → IsRunOver command.now bytes (H.file shelf.old command.now.output) (H.file shelf.new command.now.output) ended) }
     ensures done { IfOk result IsDone }
     ensures write { IfOk result (λ ended. ended.status ≡ 5 → H.IsSureToWrite shelf.old command.now.output → ⊥) }
 
@@ -186,7 +181,7 @@ fn run_words<H: Shelf>(alloc: Global, words: &[String], shelf: &mut H) -> Ended
 
     ensures done { IsRun result.status → IsDone result }
     ensures outcome { (command : Asked) → asked words.now ≡ Some command → IsRun result.status → H.Tells shelf.old → (bytes : List ℕ) → H.file shelf.old command.input ≡ Some bytes
-        → (records : List Record) × IsWholeCapture 2000000000 bytes records × IsOutcome command records (H.file shelf.old command.output) (H.file shelf.new command.output) result }
+        → IsRunOver command bytes (H.file shelf.old command.output) (H.file shelf.new command.output) result }
 {
     let Some(command) = read_command(words) else {
         return nothing(alloc, 2);
@@ -241,7 +236,7 @@ pub fn qos_top<R: Sync, H: Shelf, K: Sink, G: Gate>(
     // At 0 and 5: the journal is the paced journal of its arrivals, which are the admitted packets of the input;
     // the output is what the journal's schedule sends; each record is accounted for.
     ensures outcome { (command : Asked) → asked words.now ≡ Some command → IsRun result.status → H.Tells shelf.old → (bytes : List ℕ) → H.file shelf.old command.input ≡ Some bytes
-        → (records : List Record) × IsWholeCapture 2000000000 bytes records × IsOutcome command records (H.file shelf.old command.output) (H.file shelf.new command.output) result }
+        → IsRunOver command bytes (H.file shelf.old command.output) (H.file shelf.new command.output) result }
     ensures fine { result.status ≡ 0 → result.write_fault ≡ false ∷ [] }
 
     // The report is the text of the status before it, or a first part of that text where its sink refused it.

@@ -2,7 +2,7 @@
 ghost use Rattle.std.specs.Prelude.{◌≡◌, ◌≢◌, ◌≤◌, ◌^◌, map, IfSome, string_bytes};
 ghost use Rattle.std.specs.Char.{is_ascii_digit};
 ghost use Rattle.std.specs.List.{list_all};
-ghost use Rattle.qos_main.specs.Words.{is_number, number_of, within, is_name, begins_run, command_with, line_of, bucket_number_of, command_of};
+ghost use Rattle.qos_main.specs.Words.{is_number, number_of, within, KeepsRules, is_name, begins_run, command_with, line_of, bucket_number_of, command_of};
 
 use std::marker::Model;
 
@@ -38,11 +38,7 @@ impl<'a> Model for Command<'a> {
 /// decimal digits and keep the ranges that [`Command`] gives. No memory is taken.
 pub fn read_command(words: &[String]) -> Option<Command<'_>>
     ensures exact { result ≡ command_of (map string_bytes words.now) }
-    ensures line { IfSome result (λ c. (1000000 ≤ c.line) × (c.line ≤ 12500000000)) }
-    ensures size { IfSome result (λ c. (1 ≤ c.size) × (c.size ≤ 2 ^ 40)) }
-    ensures credits { IfSome result (λ c. (1 ≤ c.credits) × (c.credits ≤ 2 ^ 40)) }
-    ensures period { IfSome result (λ c. (1 ≤ c.period) × (c.period ≤ 2 ^ 40)) }
-    ensures names { IfSome result (λ c. c.input ≢ c.output) }
+    ensures rules { IfSome result KeepsRules }
 {
     if words.len() != 7 {
         return None;
@@ -72,11 +68,7 @@ struct Numbers<'a> {
 fn with_numbers<'a>(input: &'a str, output: &'a str, words: Numbers<'_>) -> Option<Command<'a>>
     requires { input.now ≢ output.now }
     ensures exact { result ≡ command_with input.now output.now (line_of words.entry.line.now) (bucket_number_of words.entry.size.now) (bucket_number_of words.entry.credits.now) (bucket_number_of words.entry.period.now) }
-    ensures line { IfSome result (λ c. (1000000 ≤ c.line) × (c.line ≤ 12500000000)) }
-    ensures size { IfSome result (λ c. (1 ≤ c.size) × (c.size ≤ 2 ^ 40)) }
-    ensures credits { IfSome result (λ c. (1 ≤ c.credits) × (c.credits ≤ 2 ^ 40)) }
-    ensures period { IfSome result (λ c. (1 ≤ c.period) × (c.period ≤ 2 ^ 40)) }
-    ensures names { IfSome result (λ c. c.input ≢ c.output) }
+    ensures rules { IfSome result KeepsRules }
 {
     let line = read_number(words.line, 1_000_000, 12_500_000_000)?;
     let size = read_bucket_number(words.size)?;

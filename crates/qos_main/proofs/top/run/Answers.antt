@@ -12,7 +12,7 @@ use Rattle.qos_main.specs.PortRun.{plan_of}
 use Rattle.qos_main.specs.Run.{shaper_of, arrival_time, drain_of}
 use Rattle.qos_main.specs.Output.{IsWritable, output_text, kept}
 use Rattle.qos_main.specs.Words.{Command}
-use Rattle.qos_main.specs.Top.{IsOutcome}
+use Rattle.qos_main.specs.Top.{IsRunOver}
 use Rattle.qos_pcap.specs.Format.{Record}
 use Rattle.qos_pcap.specs.Reads.{IsWholeCapture}
 use Rattle.qos_main.proofs.Outcomes.{sends_writable, outcome_is}
@@ -34,7 +34,7 @@ returns-in_err-input-clause-form g c =
 pub returns-clause-outcome : goal.returns-clause-outcome
 returns-clause-outcome g c = λ told.
     subst (λ (command : Command). (bytes : List ℕ) → g.H.Shelf.file c.args.shelf.now command.input ≡ Some bytes
-        → (records : List Record) × IsWholeCapture 2000000000 bytes records × IsOutcome command records (g.H.Shelf.file c.args.shelf.now command.output) (g.H.Shelf.file c.write_file.new.shelf command.output) c.ended.result) c.command.view_is
+    → IsRunOver command bytes (g.H.Shelf.file c.args.shelf.now command.output) (g.H.Shelf.file c.write_file.new.shelf command.output) c.ended.result) c.command.view_is
     (λ bytes held.
     let r = c.in_ok-input.ensures.records told bytes held in
     let file = c.in-Ok-write_file.file in
