@@ -27,7 +27,7 @@ use Rattle.qos_main.specs.Schedule.{Schedule, schedule_of, arrivals_of}
 use Rattle.qos_main.specs.Paced.{paced_course}
 use Rattle.qos_main.specs.PortRun.{plan_of, parcels, IsOutcomeOf}
 use Rattle.qos_main.specs.Run.{shaper_of, arrival_time, drain_of, paced_journal}
-use Rattle.qos_main.specs.Output.{output_text, kept, IsWritable}
+use Rattle.qos_main.specs.Output.{output_text, kept, BeginsWith, IsWritable}
 use Rattle.qos_main.specs.Top.{origin_in, output_of, sends_of, HasCounts, IsAccount, IsOutcome, IsCountOf, IsEndOf, PutsTogether}
 use Rattle.qos_main.proofs.Outputs.{output_text-same}
 use Rattle.std.proofs.lemmas.Bool.{cond-true, cond-false, cases_Bool}
@@ -142,9 +142,10 @@ module _ (command : Command) (records : List Record) (input : Input) (port : Por
         stopped = numbers.stopped;
       }
 
-  pub outcome_is : (file : OutFile) (ended : Ended) (before held : Option (List ℕ)) → IsUsable input → port.journal.items ≡ (paced_course (plan_of (shaper_of command)) (arrival_time command.line input.origin) (drain_of command.line) input.packets.items).journal → (file.fault ≡ false → held ≡ Some (output_text input.origin command.line (kept input.bodies) port.sends.items)) → (file.fault ≡ false → file.written ≡ length port.sends.items)
-      → (file.fault ≡ true → HoldsPrefix (output_text input.origin command.line (kept input.bodies) (take (file.written + 1) port.sends.items)) held ⊎ ((file.written ≡ 0) × (held ≡ before))) → PutsTogether input port file ended → IsOutcome command records before held ended
-  outcome_is file ended before held usable paced whole all cut put =
+  pub outcome_is : (file : OutFile) (ended : Ended) (rose : Type 0) (before held : Option (List ℕ)) → IsUsable input → port.journal.items ≡ (paced_course (plan_of (shaper_of command)) (arrival_time command.line input.origin) (drain_of command.line) input.packets.items).journal → (file.fault ≡ false → held ≡ Some (output_text input.origin command.line (kept input.bodies) port.sends.items)) → (file.fault ≡ false → file.written ≡ length port.sends.items)
+      → (file.fault ≡ true → HoldsPrefix (output_text input.origin command.line (kept input.bodies) (take (file.written + 1) port.sends.items)) held ⊎ ((file.written ≡ 0) × (held ≡ before)))
+      → (file.fault ≡ true → (rose → ⊥) → (file.written ≡ 0) ⊎ ((file.written < length port.sends.items) × BeginsWith (output_text input.origin command.line (kept input.bodies) (take file.written port.sends.items)) held)) → PutsTogether input port file ended → IsOutcome command records rose before held ended
+  outcome_is file ended rose before held usable paced whole all cut refused put =
       let journal : put.port_end.journal ≡ port.journal.items = put.journal in
       let merge : arrivals_of put.port_end.journal ≡ admitted records = ap arrivals_of journal ∙ arrivals ∙ read.packets in
       let sends : port.sends.items ≡ sends_of command put.port_end.journal = outcome.sends ∙ ap (sends_of command) (sym journal) in
@@ -152,9 +153,9 @@ module _ (command : Command) (records : List Record) (input : Input) (port : Por
       let found = All-same (λ (d : Departure Pkt). FindsBody records d.parcel) _ _ (ap (sends_of command) journal) finds_sends in
       let whole_text : text port.sends.items ≡ output_of command records (sends_of command put.port_end.journal) =
       ap text sends ∙ text_is (sends_of command put.port_end.journal) found in
-      let first_text : text (take (file.written + 1) port.sends.items) ≡ output_of command records (take (put.port_end.counts.sent + 1) (sends_of command put.port_end.journal)) =
-      ap (λ (ds : List (Departure Pkt)). text (take (file.written + 1) ds)) sends ∙ ap (λ n. text (take (n + 1) (sends_of command put.port_end.journal))) (sym put.counts.sent)
-      ∙ text_is _ (All-take (λ (d : Departure Pkt). FindsBody records d.parcel) (put.port_end.counts.sent + 1) _ found) in
+      let first_text : (m n : ℕ) → n ≡ m → text (take n port.sends.items) ≡ output_of command records (take m (sends_of command put.port_end.journal)) =
+      λ m n same. ap (λ (ds : List (Departure Pkt)). text (take n ds)) sends ∙ ap (λ k. text (take k (sends_of command put.port_end.journal))) same
+      ∙ text_is _ (All-take (λ (d : Departure Pkt). FindsBody records d.parcel) m _ found) in
       let counts = counts_are file.written put.port_end.counts put.counts in
       let account = account_is file.written put.port_end.counts put.input_end usable put.counts put.numbers in
       record {
@@ -171,7 +172,12 @@ module _ (command : Command) (records : List Record) (input : Input) (port : Por
         output = λ fine. whole fine ∙ ap (λ (t : List ℕ). Some t) whole_text;
         all_sent = λ fine. let written = all fine in omega (arith, put.counts.unwritten);
         cut = λ faulty.
-            ⊎_elim (λ (part : HoldsPrefix (text (take (file.written + 1) port.sends.items)) held). inl (subst (λ (t : List ℕ). HoldsPrefix t held) first_text part))
+            ⊎_elim (λ (part : HoldsPrefix (text (take (file.written + 1) port.sends.items)) held). inl (subst (λ (t : List ℕ). HoldsPrefix t held) (first_text (put.port_end.counts.sent + 1) (file.written + 1) (ap (λ n. n + 1) (sym put.counts.sent))) part))
             (λ (none : (file.written ≡ 0) × (held ≡ before)). inr (put.counts.sent ∙ none.0, none.1))
             (cut faulty);
+        put_refused = λ faulty calm.
+            ⊎_elim (λ (none : file.written ≡ 0). inl (put.counts.sent ∙ none))
+            (λ (begins : (file.written < length port.sends.items) × BeginsWith (text (take file.written port.sends.items)) held).
+            inr (omega (arith, begins.0, put.counts.unwritten), subst (λ (t : List ℕ). BeginsWith t held) (first_text put.port_end.counts.sent file.written (sym put.counts.sent)) begins.1))
+            (refused faulty calm);
       }

@@ -1,5 +1,5 @@
 -- What is put of an output, a send at a time.
-use Rattle.std.proofs.Common.{◌≡◌, ◌<◌, ◌≤◌, ℕ, zero, suc, ◌+◌, List, [], ◌∷◌, ◌++◌, length, take, get_or, slice_index_or, All, IfNone, IfSome, Option, Some, None, refl, sym, ap, subst, ◌∙◌, inl, inr, arith, zero-add, suc-add}
+use Rattle.std.proofs.Common.{◌≡◌, ◌<◌, ◌≤◌, ◌⊎◌, ℕ, zero, suc, ◌+◌, List, [], ◌∷◌, ◌++◌, length, take, get_or, slice_index_or, All, IfNone, IfSome, Option, Some, None, refl, sym, ap, subst, ◌∙◌, inl, inr, arith, zero-add, suc-add}
 use Rattle.std.specs.List.{flat_map}
 use Rattle.std.proofs.lemmas.Bool.{cases_lt}
 use Rattle.std.proofs.lemmas.Grind.{flat_map-append}
@@ -160,6 +160,20 @@ module _ (origin line : ℕ) (body : ℕ → List ℕ) (sends : List (Departure 
   prefix_put count (Some fault) before after all whole (text, cut, is) =
       let first = take-output_text origin line body sends count text cut in
       (first.0, is ∙ ap (λ (t : List ℕ). held_after t before) first.1)
+
+  -- where a put was refused, what is there begins with the counted ones, and not all are counted
+  pub begins_put : (count : ℕ) (before after : Option (List ℕ)) → (text : List ℕ) × IsCut origin line body sends count text × (after ≡ held_after text before)
+      → (count ≡ 0) ⊎ ((count < length sends) × (rest : List ℕ) × (after ≡ held_after (output_text origin line body (take count sends) ++ rest) before))
+  unfolding output_text
+  begins_put count before after (text, inl cut, is) = inl cut.none
+  begins_put count before after (text, inr (records, cut, e), is) =
+      let part : List ℕ = take cut.n (send_text origin line body cut.next) in
+      let first : List ℕ = sends_text origin line body (take count sends) in
+      inr (
+        slice_get_within sends count cut.next cut.is_next,
+        part,
+        is ∙ ap (λ (t : List ℕ). held_after t before) (e ∙ ap (λ (r : List ℕ). header_text ++ r) cut.is ∙ sym (append_assoc header_text first part)),
+      )
 
 -- what follows from a fact at a `None`
 pub IfNone_then : {X P Q : Type 0} (o : Option X) → (P → Q) → IfNone o P → IfNone o Q

@@ -53,8 +53,8 @@ was_six status before after answer (inr (inl five)) six = absurd (omega (arith, 
 was_six status before after answer (inr (inr seven)) six = absurd (omega arith)
 
 -- nothing but the status is another
-pub outcome_stays : (command : Command) (records : List Record) (before file : Option (List ℕ)) (ended : Ended) (status : ℕ) → IsOutcome command records before file ended → IsOutcome command records before file (record { status = status; ports = ended.ports; inputs = ended.inputs; write_fault = ended.write_fault })
-outcome_stays command records before file ended status is = record {
+pub outcome_stays : (command : Command) (records : List Record) (rose : Type 0) (before file : Option (List ℕ)) (ended : Ended) (status : ℕ) → IsOutcome command records rose before file ended → IsOutcome command records rose before file (record { status = status; ports = ended.ports; inputs = ended.inputs; write_fault = ended.write_fault })
+outcome_stays command records rose before file ended status is = record {
   port = is.port;
   input = is.input;
   fault = is.fault;
@@ -68,6 +68,7 @@ outcome_stays command records before file ended status is = record {
   output = is.output;
   all_sent = is.all_sent;
   cut = is.cut;
+  put_refused = is.put_refused;
 }
 
 -- a run that had no reason to end otherwise ends with 0, or with 7

@@ -1,5 +1,5 @@
 -- The output of a port: its header, and the records of the packets that it sends.
-use Rattle.std.specs.Prelude.{◌≡◌, ◌⊎◌, ◌<◌, ◌≤◌, ℕ, List, [], ◌++◌, length, take, Some, slice_get, slice_index_or}
+use Rattle.std.specs.Prelude.{◌≡◌, ◌⊎◌, ◌<◌, ◌≤◌, ℕ, List, [], ◌++◌, length, take, Option, Some, slice_get, slice_index_or}
 use Rattle.std.specs.List.{flat_map}
 use Rattle.qos_base.specs.declared.packet.Pkt.{Pkt}
 use Rattle.qos_base.specs.declared.packet.Departure.{Departure}
@@ -18,6 +18,10 @@ sends_text origin line body sends = flat_map (send_text origin line body) sends
 -- the whole output: the header, and the records of its sends
 unfoldable pub output_text : ℕ → ℕ → (ℕ → List ℕ) → List (Departure Pkt) → List ℕ
 output_text origin line body sends = header_text ++ sends_text origin line body sends
+
+-- a file begins with these bytes
+abbrev pub BeginsWith : List ℕ → Option (List ℕ) → Type 0
+BeginsWith text file = (rest : List ℕ) × (file ≡ Some (text ++ rest))
 
 -- the body that was kept of the record at a place
 abbrev pub kept : List (List ℕ) → ℕ → List ℕ

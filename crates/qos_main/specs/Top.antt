@@ -26,7 +26,7 @@ use Rattle.qos_main.specs.Fate.{has_fate, admitted, body_at, first_stamp}
 use Rattle.qos_main.specs.Schedule.{Schedule, schedule_of, arrivals_of, dequeues_in}
 use Rattle.qos_main.specs.PortRun.{parcels}
 use Rattle.qos_main.specs.Run.{shaper_of, paced_journal}
-use Rattle.qos_main.specs.Output.{output_text}
+use Rattle.qos_main.specs.Output.{output_text, BeginsWith}
 
 -- the command that a program's words ask for
 abbrev pub asked : List (String Global) → Option Command
@@ -67,8 +67,8 @@ pub record IsAccount (records : List Record) (schedule : Schedule) (counts : Por
   pub stopped : input.stopped ≡ End
 
 -- The run of a command over these records, where `before` and `file` are what the file of its output held before it and
--- holds after it, if it is there.
-pub record IsOutcome (command : Command) (records : List Record) (before file : Option (List ℕ)) (ended : Ended) : Type 0 where
+-- holds after it, if it is there; `rose` says that the shelf counted a fault.
+pub record IsOutcome (command : Command) (records : List Record) (rose : Type 0) (before file : Option (List ℕ)) (ended : Ended) : Type 0 where
   pub port : PortEnd
   pub input : InputEnd
   pub fault : Bool
@@ -87,11 +87,13 @@ pub record IsOutcome (command : Command) (records : List Record) (before file : 
   -- After one it is a first part of its text, up to the record after those counted as sent at the most, or it was not
   -- created: nothing was sent, and the file is as it was.
   pub cut : fault ≡ true → HoldsPrefix (output_of command records (take (port.counts.sent + 1) (sends_of command port.journal))) file ⊎ ((port.counts.sent ≡ 0) × (file ≡ before))
+  -- where the shelf counted none, so that a put was refused, it begins with the records counted as sent, and not all are
+  pub put_refused : fault ≡ true → (rose → ⊥) → (port.counts.sent ≡ 0) ⊎ ((1 ≤ port.counts.unwritten) × BeginsWith (output_of command records (take port.counts.sent (sends_of command port.journal))) file)
 
 -- the bytes of the input are a whole capture of at most 2,000,000,000 records, and over these the run came to this
-abbrev pub IsRunOver : Command → List ℕ → Option (List ℕ) → Option (List ℕ) → Ended → Type 0
-IsRunOver command bytes before file ended =
-    (records : List Record) × IsWholeCapture 2000000000 bytes records × IsOutcome command records before file ended
+abbrev pub IsRunOver : Command → List ℕ → Type 0 → Option (List ℕ) → Option (List ℕ) → Ended → Type 0
+IsRunOver command bytes rose before file ended =
+    (records : List Record) × IsWholeCapture 2000000000 bytes records × IsOutcome command records rose before file ended
 
 -- the lists of an end, empty and with room for one place each
 pub record HasRoom (lists : Lists) : Type 0 where

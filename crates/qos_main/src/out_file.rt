@@ -1,8 +1,9 @@
 //! The file that a port's output is written to.
-ghost use Rattle.std.specs.Prelude.{◌≡◌, ◌≢◌, ◌≤◌, ◌+◌, ◌↔◌, ◌⊎◌, ℕ, List, All, Some, true, false, length, take, IfOk};
+ghost use Rattle.std.specs.Prelude.{◌≡◌, ◌≢◌, ◌≤◌, ◌<◌, ◌+◌, ◌↔◌, ◌⊎◌, ℕ, List, All, Some, true, false, length, take, IfOk};
 ghost use Rattle.qos_base.specs.Time.{IsLineRate};
 ghost use Rattle.qos_io.specs.Bytes.{HoldsPrefix};
-ghost use Rattle.qos_main.specs.Output.{output_text, kept, IsWritable};
+ghost use Rattle.qos_io.specs.Fault.{HasRisen};
+ghost use Rattle.qos_main.specs.Output.{output_text, kept, BeginsWith, IsWritable};
 
 use crate::bodies::Bodies;
 use crate::output::{Written, write_output};
@@ -39,11 +40,16 @@ pub fn write_file<H: Shelf>(
     // it was not created and is as it was.
     ensures cut { H.Tells shelf.old → IfOk result (λ f. f.fault ≡ true → HoldsPrefix (output_text origin line (kept bodies.now) (take (f.written + 1) sends.now)) (H.file shelf.new name.now)
         ⊎ ((f.written ≡ 0) × (H.file shelf.new name.now ≡ H.file shelf.old name.now))) }
+    // Where neither the creation nor the closing failed, a put was refused: the file begins with the records counted as
+    // written, which are not all.
+    ensures put_refused { H.Tells shelf.old → IfOk result (λ f. f.fault ≡ true → (HasRisen (H.faults shelf.old) (H.faults shelf.new) → ⊥)
+        → (f.written ≡ 0) ⊎ ((f.written < length sends.now) × BeginsWith (output_text origin line (kept bodies.now) (take f.written sends.now)) (H.file shelf.new name.now))) }
     ensures within { IfOk result (λ f. f.written ≤ length sends.now) }
     ensures fault { IfOk result (λ f. f.fault ≡ true → H.IsSureToWrite shelf.old name.now → ⊥) }
 
     ensures files { (n : List ℕ) → n ≢ name.now → H.file shelf.new n ≡ H.file shelf.old n }
     ensures tells { H.Tells shelf.new ↔ H.Tells shelf.old }
+    ensures never_falls { H.faults shelf.old ≤ H.faults shelf.new }
 {
     let mut out = match shelf.create_out(name) {
         Ok(out) => out,

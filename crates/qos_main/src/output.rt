@@ -1,5 +1,5 @@
 //! Writing the output of a port.
-ghost use Rattle.std.specs.Prelude.{◌≡◌, ◌≤◌, ◌+◌, ℕ, List, All, Some, length, take, IfSome, IfNone, OnOk, OnErr, IsErrOf};
+ghost use Rattle.std.specs.Prelude.{◌≡◌, ◌≤◌, ◌<◌, ◌⊎◌, ◌+◌, ◌++◌, ℕ, List, All, Some, length, take, IfSome, IfNone, OnOk, OnErr, IsErrOf};
 ghost use Rattle.qos_base.specs.Time.{IsLineRate};
 ghost use Rattle.qos_io.specs.Bytes.{held_after};
 ghost use Rattle.qos_io.specs.Fault.{HasRisen};
@@ -100,11 +100,14 @@ pub fn write_output<K: Sink>(
         (K.contents out.new ≡ held_after (output_text origin line (kept bodies.now) sends.now) (K.contents out.old)) }
 
     // After a refused put there is exactly what was put before it, and what the sink took of it: in any case a
-    // first part of the output, up to the record after the counted ones at the most.
+    // first part of the output, up to the record after the counted ones at the most, and after a refusal it begins
+    // with the counted ones, which are not all.
     ensures cut { IfSome result.fault (λ fault. (text : List ℕ)
         × IsCut origin line (kept bodies.now) sends.now result.count text
         × (K.contents out.new ≡ held_after text (K.contents out.old))) }
     ensures prefix { (n : ℕ) × (K.contents out.new ≡ held_after (take n (output_text origin line (kept bodies.now) (take (result.count + 1) sends.now))) (K.contents out.old)) }
+    ensures begins { IfSome result.fault (λ fault. (result.count ≡ 0) ⊎ ((result.count < length sends.now)
+        × (rest : List ℕ) × (K.contents out.new ≡ held_after (output_text origin line (kept bodies.now) (take result.count sends.now) ++ rest) (K.contents out.old)))) }
     ensures within { result.count ≤ length sends.now }
 
     ensures failed { result.fault ≡ Some PutFault.Failed → HasRisen (K.faults out.old) (K.faults out.new) }

@@ -116,7 +116,7 @@ fn run<H: Shelf>(alloc: Global, command: &Command<'_>, shelf: &mut H) -> Result<
     requires { KeepsRules command.now }
 
     ensures outcome { H.Tells shelf.old → IfOk result (λ ended. (bytes : List ℕ) → H.file shelf.old command.now.input ≡ Some bytes
-        → IsRunOver command.now bytes (H.file shelf.old command.now.output) (H.file shelf.new command.now.output) ended) }
+        → IsRunOver command.now bytes (HasRisen (H.faults shelf.old) (H.faults shelf.new)) (H.file shelf.old command.now.output) (H.file shelf.new command.now.output) ended) }
     ensures done { IfOk result IsDone }
     ensures write { IfOk result (λ ended. ended.status ≡ 5 → H.IsSureToWrite shelf.old command.now.output → ⊥) }
 
@@ -181,7 +181,7 @@ fn run_words<H: Shelf>(alloc: Global, words: &[String], shelf: &mut H) -> Ended
 
     ensures done { IsRun result.status → IsDone result }
     ensures outcome { (command : Asked) → asked words.now ≡ Some command → IsRun result.status → H.Tells shelf.old → (bytes : List ℕ) → H.file shelf.old command.input ≡ Some bytes
-        → IsRunOver command bytes (H.file shelf.old command.output) (H.file shelf.new command.output) result }
+        → IsRunOver command bytes (HasRisen (H.faults shelf.old) (H.faults shelf.new)) (H.file shelf.old command.output) (H.file shelf.new command.output) result }
 {
     let Some(command) = read_command(words) else {
         return nothing(alloc, 2);
@@ -236,7 +236,7 @@ pub fn qos_top<R: Sync, H: Shelf, K: Sink, G: Gate>(
     // At 0 and 5: the journal is the paced journal of its arrivals, which are the admitted packets of the input;
     // the output is what the journal's schedule sends; each record is accounted for.
     ensures outcome { (command : Asked) → asked words.now ≡ Some command → IsRun result.status → H.Tells shelf.old → (bytes : List ℕ) → H.file shelf.old command.input ≡ Some bytes
-        → IsRunOver command bytes (H.file shelf.old command.output) (H.file shelf.new command.output) result }
+        → IsRunOver command bytes (HasRisen (H.faults shelf.old) (H.faults shelf.new)) (H.file shelf.old command.output) (H.file shelf.new command.output) result }
     ensures fine { result.status ≡ 0 → result.write_fault ≡ false ∷ [] }
 
     // The report is the text of the status before it, or a first part of that text where its sink refused it.

@@ -1,7 +1,7 @@
-use Rattle.std.proofs.Common.{◌+◌, ap, ◌∙◌, inl, take}
+use Rattle.std.proofs.Common.{◌+◌, ap, ◌∙◌, inl, length, take}
 use Rattle.qos_io.specs.Bytes.{held_after}
 use Rattle.qos_main.specs.Output.{output_text, kept}
-use Rattle.qos_main.proofs.OutFiles.{at_none, at_ok, holds_prefix}
+use Rattle.qos_main.proofs.OutFiles.{at_none, at_ok, holds_prefix, begins_with}
 use Rattle.qos_main.proofs.out_file.write_file.Goals as goal
 
 pub returns-in-None-Ok-clause-whole : goal.returns-in-None-Ok-clause-whole
@@ -22,3 +22,8 @@ returns-in_default-2-clause-cut g c = λ told faulty.
     let now_told = c.in-Ok.ensures.tells.1 told in
     inl (holds_prefix (output_text c.args.origin c.args.line (kept c.args.bodies.now) (take (c.write_output-written.result.count + 1) c.args.sends.now)) c.args.name.now _ _ _ (g.H.Shelf.file c.close_out-closed.new.self) c.close_out-closed.result
     (c.write_output-written.ensures.name ∙ c.in-Ok.ensures.named) (c.in-Ok.ensures.empty told) c.write_output-written.ensures.prefix (c.close_out-closed.ensures.held now_told) (c.close_out-closed.ensures.refused now_told))
+
+pub returns-in_default-clause-put_refused : goal.returns-in_default-clause-put_refused
+returns-in_default-clause-put_refused g c = λ told faulty calm.
+    begins_with c.write_output-written.result.count (length c.args.sends.now) (output_text c.args.origin c.args.line (kept c.args.bodies.now) (take c.write_output-written.result.count c.args.sends.now)) c.args.name.now _ _ _ (g.H.Shelf.file c.close_out-closed.new.self) c.write_output-written.result.fault c.in_default.field-0-0 c.close_out-closed.result c.in_default.field-0-1
+    c.in_default.is-0 c.in_default.is-1 (c.write_output-written.ensures.name ∙ c.in-Ok.ensures.named) (c.in-Ok.ensures.empty told) c.write_output-written.ensures.begins (c.close_out-closed.ensures.held (c.in-Ok.ensures.tells.1 told))

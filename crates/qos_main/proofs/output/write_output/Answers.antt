@@ -1,7 +1,7 @@
 use Rattle.std.proofs.Common.{Some}
 use Rattle.std.proofs.lemmas.Option.{IfSome_then}
 use Rattle.qos_main.specs.Output.{kept}
-use Rattle.qos_main.proofs.Outputs.{IfNone_then, all_output, cut_header, cut_output, prefix_put}
+use Rattle.qos_main.proofs.Outputs.{IfNone_then, all_output, cut_header, cut_output, prefix_put, begins_put}
 use Rattle.qos_main.proofs.output.write_output.Goals as goal
 
 pub returns-in-Err-clause-cut : goal.returns-in-Err-clause-cut
@@ -28,3 +28,9 @@ returns-clause-prefix g c =
     (IfNone_then c.write_sends.result.fault (all_output c.args.origin c.args.line (kept c.args.bodies.now) c.args.sends.now _ _ _ c.in_default.ensures.added) c.write_sends.ensures.whole)
     (IfSome_then c.write_sends.result.fault c.write_sends.ensures.cut
     (λ fault cut. cut_output c.args.origin c.args.line (kept c.args.bodies.now) c.args.sends.now c.write_sends.result.count _ _ _ c.in_default.ensures.added cut))
+
+pub returns-clause-begins : goal.returns-clause-begins
+returns-clause-begins g c =
+    IfSome_then c.write_sends.result.fault c.write_sends.ensures.cut
+    (λ fault cut. begins_put c.args.origin c.args.line (kept c.args.bodies.now) c.args.sends.now c.write_sends.result.count _ _
+    (cut_output c.args.origin c.args.line (kept c.args.bodies.now) c.args.sends.now c.write_sends.result.count _ _ _ c.in_default.ensures.added cut))

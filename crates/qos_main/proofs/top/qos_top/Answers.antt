@@ -12,7 +12,7 @@ returns-clause-capture g c = λ command asks six.
 pub returns-clause-outcome : goal.returns-clause-outcome
 returns-clause-outcome g c = λ command asks run told bytes held.
     let made = c.run_words-ended.ensures.outcome command asks (was_run _ _ _ _ (after_report _ _ _ _ _ _ c.report-status.ensures.reports) run) told bytes held in
-    (made.0, made.1, outcome_stays command made.0 _ _ c.run_words-ended.result c.report-status.result made.2)
+    (made.0, made.1, outcome_stays command made.0 _ _ _ c.run_words-ended.result c.report-status.result made.2)
 
 pub returns-clause-complete : goal.returns-clause-complete
 returns-clause-complete g c = λ command bytes records asks told held whole sure_read sure_write calm.

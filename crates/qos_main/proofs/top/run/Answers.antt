@@ -1,4 +1,4 @@
-use Rattle.std.proofs.Common.{◌≡◌, ◌⊎◌, List, ℕ, ◌+◌, Option, Some, Result, Err, length, take, ap, ◌∙◌, subst}
+use Rattle.std.proofs.Common.{◌≡◌, ◌<◌, ◌⊎◌, List, ℕ, ◌+◌, Option, Some, Result, Err, length, take, ap, ◌∙◌, subst}
 use Rattle.std.proofs.lemmas.Result.{err_from_is_err_and}
 use Rattle.std.proofs.lemmas.List.Elements.{All-same}
 use Rattle.qos_base.specs.declared.packet.Pkt.{Pkt}
@@ -10,11 +10,13 @@ use Rattle.qos_main.specs.declared.input.InputFault.TheVariants.{Form}
 use Rattle.qos_main.specs.Paced.{paced_course}
 use Rattle.qos_main.specs.PortRun.{plan_of}
 use Rattle.qos_main.specs.Run.{shaper_of, arrival_time, drain_of}
-use Rattle.qos_main.specs.Output.{IsWritable, output_text, kept}
+use Rattle.qos_main.specs.Output.{BeginsWith, IsWritable, output_text, kept}
 use Rattle.qos_main.specs.Words.{Command}
 use Rattle.qos_main.specs.Top.{IsRunOver}
 use Rattle.qos_pcap.specs.Format.{Record}
 use Rattle.qos_pcap.specs.Reads.{IsWholeCapture}
+use Rattle.qos_io.specs.Fault.{HasRisen}
+use Rattle.qos_main.proofs.Outputs.{HasRisen-from_earlier}
 use Rattle.qos_main.proofs.Outcomes.{sends_writable, outcome_is}
 use Rattle.qos_main.proofs.top.run.Goals as goal
 
@@ -34,7 +36,7 @@ returns-in_err-input-clause-form g c =
 pub returns-clause-outcome : goal.returns-clause-outcome
 returns-clause-outcome g c = λ told.
     subst (λ (command : Command). (bytes : List ℕ) → g.H.Shelf.file c.args.shelf.now command.input ≡ Some bytes
-    → IsRunOver command bytes (g.H.Shelf.file c.args.shelf.now command.output) (g.H.Shelf.file c.write_file.new.shelf command.output) c.ended.result) c.command.view_is
+    → IsRunOver command bytes (HasRisen (g.H.Shelf.faults c.args.shelf.now) (g.H.Shelf.faults c.write_file.new.shelf)) (g.H.Shelf.file c.args.shelf.now command.output) (g.H.Shelf.file c.write_file.new.shelf command.output) c.ended.result) c.command.view_is
     (λ bytes held.
     let r = c.in_ok-input.ensures.records told bytes held in
     let file = c.in-Ok-write_file.file in
@@ -49,11 +51,13 @@ returns-clause-outcome g c = λ told.
     let told_then = c.in_ok-input.ensures.tells.1 told in (
       r.0,
       r.1,
-      outcome_is command r.0 input port r.2 (c.in-Ok-drive.ensures.arrivals ∙ c.deref.ensures.value) c.in-Ok-drive.ensures.outcome file c.ended.result (g.H.Shelf.file c.args.shelf.now command.output) held_after c.in_ok-input.ensures.usable
+      outcome_is command r.0 input port r.2 (c.in-Ok-drive.ensures.arrivals ∙ c.deref.ensures.value) c.in-Ok-drive.ensures.outcome file c.ended.result (HasRisen (g.H.Shelf.faults c.args.shelf.now) (g.H.Shelf.faults c.write_file.new.shelf)) (g.H.Shelf.file c.args.shelf.now command.output) held_after c.in_ok-input.ensures.usable
           (c.in-Ok-drive.ensures.paced ∙ ap (λ ps. (paced_course (plan_of (shaper_of command)) (arrival_time command.line input.origin) (drain_of command.line) ps).journal) c.deref.ensures.value)
           (λ fine. there.whole told_then fine ∙ ap (λ ds. Some (text ds)) sends)
           (λ fine. there.all fine ∙ ap length sends)
           (λ faulty. subst (λ (before : Option (List ℕ)). HoldsPrefix (text (take (file.written + 1) port.sends.items)) held_after ⊎ ((file.written ≡ 0) × (held_after ≡ before))) (c.in_ok-input.ensures.files command.output)
           (subst (λ ds. HoldsPrefix (text (take (file.written + 1) ds)) held_after ⊎ ((file.written ≡ 0) × (held_after ≡ g.H.Shelf.file c.read_input.new.shelf command.output))) sends (there.cut told_then faulty)))
+          (λ faulty calm. subst (λ ds. (file.written ≡ 0) ⊎ ((file.written < length ds) × BeginsWith (text (take file.written ds)) held_after)) sends
+          (there.put_refused told_then faulty (λ later. calm (HasRisen-from_earlier _ _ _ c.in_ok-input.ensures.never_falls there.never_falls later))))
           c.ended.ensures,
     ))
