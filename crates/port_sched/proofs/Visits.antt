@@ -1,11 +1,11 @@
 -- A visit that sends a packet at a time, from a bucket that is stepped.
-use Rattle.std.proofs.Common.{◌≡◌, ◌<◌, ◌≤◌, ◌⊎◌, ℕ, ◌+◌, ◌-◌, ◌*◌, min, List, ◌++◌, length, map, take, drop, sym, ap, ◌∙◌, ⊎_elim, append_assoc, length-append, length-drop, arith}
+use Rattle.std.proofs.Common.{◌≡◌, ◌<◌, ◌≤◌, ◌⊎◌, ℕ, ◌+◌, ◌-◌, ◌*◌, min, List, ◌++◌, length, take, drop, sym, ap, ◌∙◌, ⊎_elim, append_assoc, length-append, length-drop, arith}
 use Rattle.qos_base.specs.declared.packet.Pkt.{Pkt}
 use Rattle.qos_base.specs.declared.packet.Departure.{Departure}
 use Rattle.port_sched.specs.PortState.{PortState, tick}
 use Rattle.port_sched.specs.Dequeue.{Dequeued, total_cost, sends_first, longest_front, visit}
-use Rattle.std.proofs.lemmas.List.{length-take-le, take-append-drop, map-append}
-use Rattle.port_sched.proofs.Sends.{length-sends_from, parcels-sends_from, total_cost-take-add, sends_first-add, sends-sends_first-add}
+use Rattle.std.proofs.lemmas.List.{length-take-le}
+use Rattle.port_sched.proofs.Sends.{length-sends_from, total_cost-take-add, sends_first-add, sends-sends_first-add}
 use Rattle.port_sched.proofs.Fronts.{longest_front-is, longer-costs}
 
 -- From `first` on, with `held` in the vector, the first `sent` packets were sent and paid for.
@@ -14,20 +14,18 @@ pub record HasSent {T : Type 0} (packet : T → Pkt) (first : PortState T) (held
   pub sends : out ≡ held ++ (sends_first packet sent first).sends
   pub there : sent ≤ length first.queue
   pub paid : total_cost packet (take sent first.queue) ≤ first.credits
-  pub at_least : 24 * sent ≤ total_cost packet (take sent first.queue)
   pub at_most : total_cost packet (take sent first.queue) ≤ 1546 * sent
   pub within : sent ≤ room
 
 module _ {T : Type 0} (packet : T → Pkt) (first : PortState T) (held : List (Departure T)) (room : ℕ) where
-  pub HasSent-more : (now next : PortState T) (out grown : List (Departure T)) (sent : ℕ) → HasSent packet first held room now out sent → sent < room → next ≡ (sends_first packet 1 now).state → grown ≡ out ++ (sends_first packet 1 now).sends → 0 < length now.queue → total_cost packet (take 1 now.queue) ≤ now.credits → 24 ≤ total_cost packet (take 1 now.queue) → total_cost packet (take 1 now.queue) ≤ 1546 → HasSent packet first held room next grown (sent + 1)
-  HasSent-more now next out grown sent so_far room_left state sends there fits long short =
+  pub HasSent-more : (now next : PortState T) (out grown : List (Departure T)) (sent : ℕ) → HasSent packet first held room now out sent → sent < room → next ≡ (sends_first packet 1 now).state → grown ≡ out ++ (sends_first packet 1 now).sends → 0 < length now.queue → total_cost packet (take 1 now.queue) ≤ now.credits → total_cost packet (take 1 now.queue) ≤ 1546 → HasSent packet first held room next grown (sent + 1)
+  HasSent-more now next out grown sent so_far room_left state sends there fits short =
       let queue : now.queue ≡ drop sent first.queue = ap (λ (s : PortState T). s.queue) so_far.state in
       let credits : now.credits ≡ first.credits - total_cost packet (take sent first.queue) = ap (λ (s : PortState T). s.credits) so_far.state in
       let left : length now.queue ≡ length first.queue - sent = ap length queue ∙ length-drop sent first.queue in
       let cost : total_cost packet (take 1 now.queue) ≡ total_cost packet (take 1 (drop sent first.queue)) = ap (λ ts. total_cost packet (take 1 ts)) queue in
       let total = total_cost-take-add packet sent 1 first.queue in
       let paid = so_far.paid in
-      let at_least = so_far.at_least in
       let at_most = so_far.at_most in
       let had = so_far.there in
       record {
@@ -38,7 +36,6 @@ module _ {T : Type 0} (packet : T → Pkt) (first : PortState T) (held : List (D
             ∙ ap (λ sends. held ++ sends) (sends-sends_first-add packet sent 1 first);
         there = omega arith;
         paid = omega arith;
-        at_least = omega arith;
         at_most = omega arith;
         within = omega arith;
       }
@@ -85,20 +82,3 @@ module _ {T : Type 0} (packet : T → Pkt) (first : PortState T) (held : List (D
   pub sends-visit : (s now : PortState T) (out grown : List (Departure T)) (sent : ℕ) → first ≡ tick s.time s → HasSent packet first held room now out sent → (room ≤ sent) ⊎ (0 < length now.queue → now.credits < total_cost packet (take 1 now.queue)) → grown ≡ out → grown ≡ held ++ (visit packet room s).sends
   sends-visit s now out grown sent stepped so_far ended same =
       same ∙ so_far.sends ∙ ap (λ (d : Dequeued T). held ++ d.sends) (sym (visit-sent s now out sent stepped so_far ended))
-
-  -- what was sent was at the front, in its order
-  pub order-sent : (now : PortState T) (out : List (Departure T)) (sent : ℕ) → HasSent packet first held room now out sent → map (λ (d : Departure T). d.parcel) out ++ now.queue ≡ map (λ (d : Departure T). d.parcel) held ++ first.queue
-  order-sent now out sent so_far =
-      ap (λ ds. map (λ (d : Departure T). d.parcel) ds ++ now.queue) so_far.sends
-      ∙ ap (λ ps. ps ++ now.queue) (map-append (λ (d : Departure T). d.parcel) held (sends_first packet sent first).sends)
-      ∙ append_assoc (map (λ (d : Departure T). d.parcel) held) (map (λ (d : Departure T). d.parcel) (sends_first packet sent first).sends) now.queue
-      ∙ ap (λ ps. map (λ (d : Departure T). d.parcel) held ++ (ps ++ now.queue)) (parcels-sends_from packet first.time (take sent first.queue))
-      ∙ ap (λ (s : PortState T). map (λ (d : Departure T). d.parcel) held ++ (take sent first.queue ++ s.queue)) so_far.state
-      ∙ ap (λ ps. map (λ (d : Departure T). d.parcel) held ++ ps) (take-append-drop sent first.queue)
-
-  pub order-visit : (s now next : PortState T) (out grown : List (Departure T)) (sent : ℕ) → first ≡ tick s.time s → HasSent packet first held room now out sent → next ≡ now → grown ≡ out → map (λ (d : Departure T). d.parcel) grown ++ next.queue ≡ map (λ (d : Departure T). d.parcel) held ++ s.queue
-  order-visit s now next out grown sent stepped so_far same same_out =
-      ap (λ (n : PortState T). map (λ (d : Departure T). d.parcel) grown ++ n.queue) same
-      ∙ ap (λ ds. map (λ (d : Departure T). d.parcel) ds ++ now.queue) same_out
-      ∙ order-sent now out sent so_far
-      ∙ ap (λ (f : PortState T). map (λ (d : Departure T). d.parcel) held ++ f.queue) stepped

@@ -2,11 +2,12 @@
 use Rattle.std.specs.Prelude.{ℕ, zero, suc, ◌+◌, ◌-◌, ◌||◌, ◌==◌, nat_le, min, max, if◌then◌else◌, List, [], ◌∷◌, ◌++◌, length, take, drop, sum_by}
 use Rattle.qos_base.specs.declared.packet.Pkt.{Pkt}
 use Rattle.qos_base.specs.declared.packet.Departure.{Departure}
+use Rattle.port_sched.specs.declared.plain.TheConstants.{OVERHEAD}
 use Rattle.port_sched.specs.PortState.{PortState, tick}
 
 -- what a packet costs: its length on the line with preamble, start delimiter, checksum and gap (IEEE 802.3), in bytes
 abbrev pub cost_of : Pkt → ℕ
-cost_of p = p.wire + 24
+cost_of p = p.wire + OVERHEAD
 
 -- what was sent, and where the port stands after it
 pub record Dequeued (T : Type 0) : Type 0 where

@@ -1,3 +1,4 @@
 pub mod PortState
 pub mod Dequeue
+pub mod Laws
 pub mod Plain

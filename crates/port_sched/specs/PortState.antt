@@ -1,12 +1,13 @@
 -- A port with one queue behind one token bucket (DPDK Programmer's Guide, Quality of Service Framework: hierarchical scheduler).
-use Rattle.std.specs.Prelude.{ℕ, ◌/◌, List, [], ◌∷◌, ◌++◌}
+use Rattle.std.specs.Prelude.{ℕ, ◌/◌, ◌≤◌, ◌^◌, List, [], ◌∷◌, ◌++◌}
+use Rattle.port_sched.specs.declared.shaper.Shaper.{Shaper}
 use Rattle.credit_book.specs.Bucket.{multiples, after_periods}
 
--- a bucket's numbers: the most credits that it holds, the credits of one period, and the period in byte times
-pub record Shaper : Type 0 where
-  pub size : ℕ
-  pub per_period : ℕ
-  pub period : ℕ
+-- a bucket that a port can have: each number is 1 to 2^40
+pub record IsShaper (shaper : Shaper) : Type 0 where
+  pub size : (1 ≤ shaper.size) × (shaper.size ≤ 2 ^ 40)
+  pub per_period : (1 ≤ shaper.per_period) × (shaper.per_period ≤ 2 ^ 40)
+  pub period : (1 ≤ shaper.period) × (shaper.period ≤ 2 ^ 40)
 
 -- what a port stands at; T is what carries a packet
 pub record PortState (T : Type 0) : Type 0 where
@@ -19,10 +20,6 @@ pub record PortState (T : Type 0) : Type 0 where
   pub credits : ℕ
   -- what waits, the oldest first
   pub queue : List T
-
--- how many packets the queue holds at most
-abbrev pub queue_size : ℕ
-queue_size = 64
 
 module _ {T : Type 0} where
   -- the start: no time has passed, the bucket is half full, nothing waits

@@ -5,9 +5,12 @@
 //! and it holds the very parcels that it was given.
 #![tactic(auto)]
 
+pub mod laws;
 mod plain;
+mod shaper;
 
-pub use plain::{OVERHEAD, PlainSched, QUEUE_SIZE};
+pub use plain::{MTU, OVERHEAD, PlainSched, QUEUE_SIZE};
+pub use shaper::Shaper;
 
 #[cfg(test)]
 mod tests;

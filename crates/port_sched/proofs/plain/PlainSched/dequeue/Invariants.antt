@@ -1,5 +1,4 @@
-use Rattle.std.proofs.Common.{◌≡◌, ◌≤◌, ◌+◌, ◌*◌, ◌-◌, ◌++◌, length, map, vec_capacity}
-use Rattle.qos_base.specs.declared.packet.Departure.{Departure}
+use Rattle.std.proofs.Common.{◌≡◌, ◌≤◌, ◌+◌, ◌*◌, ◌-◌, length, vec_capacity}
 use Rattle.port_sched.proofs.Turns.{GoesOn}
 use Rattle.port_sched.proofs.plain.PlainSched.dequeue.Given as goal
 
@@ -8,9 +7,6 @@ invariant-loop-left g l = record {
   so_far : GoesOn g.T.Parcel.packet l.room l.initial.self l.initial.out.items l.left l.self l.out.items;
   grown : length l.out.items + l.left ≡ length l.initial.out.items + l.room;
   within : l.left ≤ l.room;
-  order : map (λ (d : Departure g.row.T.Denot). d.parcel) l.out.items ++ l.self.queue ≡ map (λ (d : Departure g.row.T.Denot). d.parcel) l.initial.out.items ++ l.initial.self.queue;
-  shaper : l.self.shaper ≡ l.initial.self.shaper;
-  no_sooner : l.initial.self.time + 24 * (l.room - l.left) ≤ l.self.time;
   no_later : l.self.time ≤ l.initial.self.time + 1546 * (l.room - l.left);
   capacity : vec_capacity l.out ≡ vec_capacity l.initial.out;
 }

@@ -1,5 +1,5 @@
 use Rattle.std.proofs.Common.{refl, ◌∙◌, inl, inr, arith}
-use Rattle.port_sched.proofs.Visits.{HasSent-more, length-sent, length-visit, state-visit, sends-visit, order-visit}
+use Rattle.port_sched.proofs.Visits.{HasSent-more, length-sent, length-visit, state-visit, sends-visit}
 use Rattle.port_sched.proofs.plain.PlainSched.visit.Goals as goal
 
 pub send_front-requires-clause-space : goal.send_front-requires-clause-space
@@ -10,7 +10,7 @@ send_front-requires-clause-space g c =
 
 pub loop-sent-preserved : goal.loop-sent-preserved
 loop-sent-preserved g c = record {
-  so_far = HasSent-more g.T.Parcel.packet c.step_bucket.new.self c.args.out.now.items c.args.room _ _ _ _ _ c.loop-sent.invariant.so_far c.loop-sent-test.true (c.if-send_front.ensures.sent.0) (c.if-send_front.ensures.sent.1) c.if-send_front.ensures.fits.0 c.if-send_front.ensures.fits.1 c.if-send_front.ensures.fits.2 c.if-send_front.ensures.fits.3;
+  so_far = HasSent-more g.T.Parcel.packet c.step_bucket.new.self c.args.out.now.items c.args.room _ _ _ _ _ c.loop-sent.invariant.so_far c.loop-sent-test.true (c.if-send_front.ensures.sent.0) (c.if-send_front.ensures.sent.1) c.if-send_front.ensures.fits.0 c.if-send_front.ensures.fits.1 c.if-send_front.ensures.fits.2;
   capacity = c.send_front.ensures.capacity ∙ c.loop-sent.invariant.capacity;
 }
 
@@ -26,10 +26,6 @@ pub returns-else-send_front-clause-count : goal.returns-else-send_front-clause-c
 returns-else-send_front-clause-count g c =
     length-visit g.T.Parcel.packet _ _ _ c.args.self.now _ _ _ c.step_bucket.ensures c.loop-sent.invariant.so_far (inr c.if-send_front.ensures.does_not_fit)
 
-pub returns-else-send_front-clause-order : goal.returns-else-send_front-clause-order
-returns-else-send_front-clause-order g c =
-    order-visit g.T.Parcel.packet _ _ _ c.args.self.now _ _ _ _ _ c.step_bucket.ensures c.loop-sent.invariant.so_far c.if-send_front.ensures.stays.0 c.if-send_front.ensures.stays.1
-
 pub returns-after-loop-sent-clause-state : goal.returns-after-loop-sent-clause-state
 returns-after-loop-sent-clause-state g c =
     state-visit g.T.Parcel.packet _ _ _ c.args.self.now _ _ _ _ c.step_bucket.ensures c.loop-sent.invariant.so_far (inl c.loop-sent-test.false) refl
@@ -41,7 +37,3 @@ returns-after-loop-sent-clause-sends g c =
 pub returns-after-loop-sent-clause-count : goal.returns-after-loop-sent-clause-count
 returns-after-loop-sent-clause-count g c =
     length-visit g.T.Parcel.packet _ _ _ c.args.self.now _ _ _ c.step_bucket.ensures c.loop-sent.invariant.so_far (inl c.loop-sent-test.false)
-
-pub returns-after-loop-sent-clause-order : goal.returns-after-loop-sent-clause-order
-returns-after-loop-sent-clause-order g c =
-    order-visit g.T.Parcel.packet _ _ _ c.args.self.now _ _ _ _ _ c.step_bucket.ensures c.loop-sent.invariant.so_far refl refl
