@@ -2,7 +2,7 @@
 use Rattle.std.proofs.Common.{◌≡◌, ◌<◌, ◌≤◌, ℕ, zero, suc, ◌+◌, ◌*◌, ◌/◌, ◌-◌, min, sym, ap, ◌∙◌, arith}
 use Rattle.std.proofs.Math.Nat.{mul-add-div_right, div-mul-le_self, div-zero, add-zero, add-suc}
 use Rattle.std.proofs.lemmas.Nat.{le-div}
-use Rattle.credit_book.specs.Bucket.{TokenBucket, IsTokenBucket, brought, multiples, after_periods}
+use Rattle.credit_book.specs.Bucket.{TokenBucket, IsTokenBucket, bucket_at, multiples, after_periods}
 use Rattle.credit_book.proofs.Periods.{periods-multiples}
 
 -- the periods up to a moment and those from the time then counted are all of them
@@ -23,8 +23,8 @@ time-parts : (a p n m k : ℕ) → k ≡ n + m → a + n * p + m * p ≡ a + k *
 time-parts a p n m k sum =
     let product : k * p ≡ n * p + m * p = ap (λ x. x * p) sum ∙ grind arith in omega arith
 
-pub brought-brought : (b : TokenBucket) (s t : ℕ) → 1 ≤ b.period → b.time ≤ s → s ≤ t → brought t (brought s b) ≡ brought t b
-brought-brought b s t some first second =
+pub bucket_at-bucket_at : (b : TokenBucket) (s t : ℕ) → 1 ≤ b.period → b.time ≤ s → s ≤ t → bucket_at t (bucket_at s b) ≡ bucket_at t b
+bucket_at-bucket_at b s t some first second =
     let n = (s - b.time) / b.period in
     let m = (t - (b.time + n * b.period)) / b.period in
     let k = (t - b.time) / b.period in
@@ -46,8 +46,8 @@ min-gain : (size per c n m k : ℕ) → k ≡ n + m → min size (c + k * per) �
 min-gain size per c n m k sum =
     let product : k * per ≡ n * per + m * per = ap (λ x. x * per) sum ∙ grind arith in omega arith
 
-pub brought-gain : (b : TokenBucket) (s t : ℕ) → IsTokenBucket b → b.time ≤ s → s ≤ t → (brought t b).credits ≤ (brought s b).credits + multiples b.period s t * b.per_period
-brought-gain b s t ok first second =
+pub bucket_at-gain : (b : TokenBucket) (s t : ℕ) → IsTokenBucket b → b.time ≤ s → s ≤ t → (bucket_at t b).credits ≤ (bucket_at s b).credits + multiples b.period s t * b.per_period
+bucket_at-gain b s t ok first second =
     let p = b.period in
     let to_s = periods-multiples p b.time s ok.period_at_least ok.time_is_multiple first in
     let to_t = periods-multiples p b.time t ok.period_at_least ok.time_is_multiple (omega arith) in

@@ -24,8 +24,8 @@ abbrev pub new_bucket : ℕ → ℕ → ℕ → TokenBucket
 new_bucket size per_period period = record { size = size; per_period = per_period; period = period; time = 0; credits = size / 2 }
 
 -- a bucket brought up to a moment: the credits of the whole periods since its time, never above the size; its time moves by those periods
-abbrev pub brought : ℕ → TokenBucket → TokenBucket
-brought moment b =
+abbrev pub bucket_at : ℕ → TokenBucket → TokenBucket
+bucket_at moment b =
     let periods = (moment - b.time) / b.period in
     record b { time = b.time + periods * b.period; credits = min b.size (b.credits + periods * b.per_period) }
 

@@ -1,25 +1,25 @@
 -- What follows for buckets and watermarks from how they are brought up to a moment.
 use Rattle.std.specs.Prelude.{◌≡◌, ℕ, ◌+◌, ◌*◌, ◌≤◌}
-use Rattle.credit_book.specs.Bucket.{TokenBucket, IsTokenBucket, brought, multiples, after_periods}
+use Rattle.credit_book.specs.Bucket.{TokenBucket, IsTokenBucket, bucket_at, multiples, after_periods}
 use Rattle.credit_book.specs.Watermark.{OversubscriptionWatermark, stepped}
 
 -- bringing a bucket to a moment and then to a later one is bringing it to the later one
 abbrev pub BringsOnce : Type 0
-BringsOnce = (b : TokenBucket) (s t : ℕ) → 1 ≤ b.period → b.time ≤ s → s ≤ t → brought t (brought s b) ≡ brought t b
+BringsOnce = (b : TokenBucket) (s t : ℕ) → 1 ≤ b.period → b.time ≤ s → s ≤ t → bucket_at t (bucket_at s b) ≡ bucket_at t b
 
 -- a bucket's credits never pass its size
 abbrev pub CreditsWithinSize : Type 0
-CreditsWithinSize = (b : TokenBucket) (t : ℕ) → (brought t b).credits ≤ b.size
+CreditsWithinSize = (b : TokenBucket) (t : ℕ) → (bucket_at t b).credits ≤ b.size
 
 -- from one moment to a later one a bucket gains at most its credits for each multiple of its period between them
 abbrev pub GainsPerPeriod : Type 0
 GainsPerPeriod =
-    (b : TokenBucket) (s t : ℕ) → IsTokenBucket b → b.time ≤ s → s ≤ t → (brought t b).credits ≤ (brought s b).credits + multiples b.period s t * b.per_period
+    (b : TokenBucket) (s t : ℕ) → IsTokenBucket b → b.time ≤ s → s ≤ t → (bucket_at t b).credits ≤ (bucket_at s b).credits + multiples b.period s t * b.per_period
 
 -- earning all periods at once and one period at a time give the same credits
 abbrev pub OnceIsStepwise : Type 0
 OnceIsStepwise =
-    (b : TokenBucket) (t : ℕ) → IsTokenBucket b → b.time ≤ t → (brought t b).credits ≡ after_periods b.size b.per_period (multiples b.period b.time t) b.credits
+    (b : TokenBucket) (t : ℕ) → IsTokenBucket b → b.time ≤ t → (bucket_at t b).credits ≡ after_periods b.size b.per_period (multiples b.period b.time t) b.credits
 
 -- some periods and then some more are all of them
 abbrev pub PeriodsAddUp : Type 0

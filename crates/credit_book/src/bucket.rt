@@ -1,6 +1,6 @@
 //! Token buckets.
 ghost use Rattle.std.specs.Prelude.{◌≡◌, ◌+◌, ◌*◌, ◌/◌, ◌^◌, ◌≤◌, ◌↔◌, IsTrue};
-ghost use Rattle.credit_book.specs.Bucket.{TokenBucket, IsTokenBucket, new_bucket, brought, multiples, after_periods, paid};
+ghost use Rattle.credit_book.specs.Bucket.{TokenBucket, IsTokenBucket, new_bucket, bucket_at, multiples, after_periods, paid};
 
 use qos_base::Steps;
 use std::marker::Model;
@@ -59,7 +59,7 @@ impl Bucket {
     pub fn bring<L: Ledger>(&mut self, time: u64, steps: &mut Steps<L>)
         requires not_past { self.old.time ≤ time }
         requires time { time ≤ 2 ^ 63 }
-        ensures exact { self.new ≡ brought time self.old }
+        ensures exact { self.new ≡ bucket_at time self.old }
         ensures stepwise { let periods = multiples self.old.period self.old.time time in
             self.new.credits ≡ after_periods self.old.size self.old.per_period periods self.old.credits }
         ensures time { self.new.time ≡ self.old.period * (time / self.old.period) }

@@ -1,7 +1,7 @@
 -- A bucket that is brought up to port time is the stepped bucket of the definition.
 use Rattle.std.proofs.Common.{◌≡◌, ◌≤◌, ℕ, ◌-◌, ◌*◌, ◌/◌, List, ap, ◌∙◌, arith}
 use Rattle.std.proofs.Math.Nat.{mul-div_cancel_left}
-use Rattle.credit_book.specs.Bucket.{TokenBucket, brought, after_periods, multiples}
+use Rattle.credit_book.specs.Bucket.{TokenBucket, bucket_at, after_periods, multiples}
 use Rattle.port_sched.specs.PortState.{PortState, tick}
 
 -- since the last multiple up to a moment there are as many multiples as since that moment
@@ -18,7 +18,7 @@ port_of bucket time ticked queue = record {
   queue = queue;
 }
 
-pub stepped : {T : Type 0} (old new : TokenBucket) (time ticked : ℕ) (queue : List T) → 1 ≤ old.period → old.time ≡ old.period * (ticked / old.period) → new ≡ brought time old → new.credits ≡ after_periods old.size old.per_period (multiples old.period old.time time) old.credits → port_of new time time queue ≡ tick time (port_of old time ticked queue)
+pub stepped : {T : Type 0} (old new : TokenBucket) (time ticked : ℕ) (queue : List T) → 1 ≤ old.period → old.time ≡ old.period * (ticked / old.period) → new ≡ bucket_at time old → new.credits ≡ after_periods old.size old.per_period (multiples old.period old.time time) old.credits → port_of new time time queue ≡ tick time (port_of old time ticked queue)
 stepped {T} old new time ticked queue some whole exact stepwise =
     let passed : multiples old.period old.time time ≡ multiples old.period ticked time = ap (λ t. multiples old.period t time) whole ∙ multiples-from_whole old.period ticked time some in
     let credits : new.credits ≡ after_periods old.size old.per_period (multiples old.period ticked time) old.credits = stepwise ∙ ap (λ n. after_periods old.size old.per_period n old.credits) passed in

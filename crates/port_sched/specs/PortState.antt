@@ -34,5 +34,5 @@ module _ {T : Type 0} where
   }
 
   -- a packet that arrives joins the back of the queue
-  abbrev pub joined : T → PortState T → PortState T
-  joined t s = record s { queue = s.queue ++ t ∷ [] }
+  abbrev pub after_arrival : T → PortState T → PortState T
+  after_arrival t s = record s { queue = s.queue ++ t ∷ [] }

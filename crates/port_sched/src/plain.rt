@@ -1,7 +1,7 @@
 //! One queue behind one token bucket.
 ghost use Rattle.std.specs.Prelude.{◌≡◌, ◌≤◌, ◌<◌, ◌+◌, ◌*◌, ◌/◌, ◌^◌, ◌++◌, ◌↔◌, ℕ, length, map, take, drop, max, IfOk, OnOk, IfErr, IsOk, slice_get, vec_len, vec_capacity};
 ghost use Rattle.std.specs.Bool.{OnTrue, OnFalse};
-ghost use Rattle.credit_book.specs.Bucket.{brought, after_periods, multiples};
+ghost use Rattle.credit_book.specs.Bucket.{bucket_at, after_periods, multiples};
 
 use circular_buffer::HeapCircularBuffer;
 use credit_book::Bucket;
@@ -54,7 +54,7 @@ fn bring<L: Ledger>(bucket: &mut Bucket, time: u64, blank: Blank)
     requires some { 0 < L.parts }
     requires not_past { bucket.old.time ≤ time }
     requires time { time ≤ 2 ^ 63 }
-    ensures exact { bucket.new ≡ brought time bucket.old }
+    ensures exact { bucket.new ≡ bucket_at time bucket.old }
     ensures stepwise { bucket.new.credits ≡ after_periods bucket.old.size bucket.old.per_period (multiples bucket.old.period bucket.old.time time) bucket.old.credits }
     ensures time { bucket.new.time ≡ bucket.old.period * (time / bucket.old.period) }
 {
@@ -62,7 +62,7 @@ fn bring<L: Ledger>(bucket: &mut Bucket, time: u64, blank: Blank)
 }
 
 impl<T: Parcel> PlainSched<T> {
-    ghost use Rattle.port_sched.specs.PortState.{PortState, IsShaper, start_of, tick, joined};
+    ghost use Rattle.port_sched.specs.PortState.{PortState, IsShaper, start_of, tick, after_arrival};
     ghost use Rattle.port_sched.specs.Dequeue.{Dequeued, cost_of, total_cost, sends_from, sends_first, longest_front, visit, turn, dequeue};
 
     /// An empty port at time 0, whose bucket is half full. The queue's memory is taken here, and no later
@@ -107,7 +107,7 @@ impl<T: Parcel> PlainSched<T> {
     pub fn arrive(&mut self, parcel: T) -> Result<(), TailFull<T>>
         requires { (T.packet parcel).wire ≤ MTU }
         ensures full { IsOk result ↔ (length self.old.queue < QUEUE_SIZE) }
-        ensures joined { OnOk result (self.new ≡ joined parcel self.old) }
+        ensures joined { OnOk result (self.new ≡ after_arrival parcel self.old) }
         ensures refused { IfErr result (λ e. (e.parcel ≡ parcel) × (self.new ≡ self.old)) }
     {
         match self.queue.try_push_back(parcel) {

@@ -3,9 +3,9 @@ use Rattle.std.proofs.Common.{◌≡◌, ◌<◌, ◌≤◌, ◌⊎◌, ℕ, zer
 use Rattle.std.proofs.lemmas.Bool.{cases_lt}
 use Rattle.std.proofs.lemmas.Bool.Decides.{nat_tests}
 use Rattle.qos_main.specs.declared.entry.Entry.TheVariants.{Dequeue}
-use Rattle.qos_main.specs.Pacer.{PacerState, step_to, aimed, next_in, next_moment}
+use Rattle.qos_main.specs.Pacer.{PacerState, step_to, after_aim, next_in, next_moment}
 use Rattle.qos_main.specs.Schedule.{schedule_of, arrivals_of}
-use Rattle.qos_main.specs.Paced.{Plan, Course, stands, dequeued_at, moment_after, advance_by, advance}
+use Rattle.qos_main.specs.Paced.{Plan, Course, schedule_in, after_dequeue, moment_after, advance_by, advance}
 use Rattle.qos_main.specs.PortRun.{RunState, course_of, schedule, IsReady}
 use Rattle.qos_main.proofs.Schedules.{arrivals_of-dequeue}
 use Rattle.qos_main.proofs.Choices.{if-le, if-gt, if-lt, if-ge, if-zero, if-some, zero_or_some}
@@ -54,13 +54,13 @@ module _ (plan : Plan) (step to : ℕ) where
   ended-ahead c ahead = let same : to ≡ max c.clock to = omega arith in ap (λ (n : ℕ). record c { clock = n }) same
 
   -- the advance is over where the clock is there, nothing waits, or the next dequeue would be past the aim
-  pub by-over : (times : ℕ) (c : Course) → to - c.clock ≤ times → (to ≤ c.clock) ⊎ ((length (stands plan c).port.queue ≡ 0) ⊎ (to < moment_after plan step c)) → advance_by plan step to times c ≡ ended c
+  pub by-over : (times : ℕ) (c : Course) → to - c.clock ≤ times → (to ≤ c.clock) ⊎ ((length (schedule_in plan c).port.queue ≡ 0) ⊎ (to < moment_after plan step c)) → advance_by plan step to times c ≡ ended c
   unfolding advance_by
   by-over zero c enough over = ended-there c (omega arith)
   by-over (suc times) c enough over =
-      let queue = length (stands plan c).port.queue in
+      let queue = length (schedule_in plan c).port.queue in
       let at_to : Course = record c { clock = to } in
-      let more = advance_by plan step to times (dequeued_at plan (moment_after plan step c) c) in
+      let more = advance_by plan step to times (after_dequeue plan (moment_after plan step c) c) in
       let last : Course = cond (ltb to (moment_after plan step c)) at_to more in
       ⊎_elim
       (λ (ahead : c.clock < to).
@@ -78,21 +78,21 @@ module _ (plan : Plan) (step to : ℕ) where
   pub record Goes (times : ℕ) (c : Course) (now : ℕ) : Type 0 where
     pub times_left : ℕ
     pub enough : to - now ≤ times_left
-    pub on : advance_by plan step to times c ≡ advance_by plan step to times_left (dequeued_at plan now c)
+    pub on : advance_by plan step to times c ≡ advance_by plan step to times_left (after_dequeue plan now c)
 
-  pub by-more : (times : ℕ) (c : Course) (now : ℕ) → to - c.clock ≤ times → c.clock < to → 0 < length (stands plan c).port.queue → moment_after plan step c ≡ now → now ≤ to → c.clock < now → Goes times c now
+  pub by-more : (times : ℕ) (c : Course) (now : ℕ) → to - c.clock ≤ times → c.clock < to → 0 < length (schedule_in plan c).port.queue → moment_after plan step c ≡ now → now ≤ to → c.clock < now → Goes times c now
   unfolding advance_by
   by-more zero c now enough ahead some is within moves = absurd (omega arith)
   by-more (suc times) c now enough ahead some is within moves =
-      let queue = length (stands plan c).port.queue in
+      let queue = length (schedule_in plan c).port.queue in
       let at_to : Course = record c { clock = to } in
-      let more = advance_by plan step to times (dequeued_at plan (moment_after plan step c) c) in
+      let more = advance_by plan step to times (after_dequeue plan (moment_after plan step c) c) in
       let last : Course = cond (ltb to (moment_after plan step c)) at_to more in
       record {
         times_left = times;
         enough = omega arith;
         on = if-gt to c.clock c (cond (eqb queue 0) at_to last) ahead ∙ if-some queue at_to last some ∙ if-ge to (moment_after plan step c) at_to more (omega (arith, is))
-            ∙ ap (λ n. advance_by plan step to times (dequeued_at plan n c)) is;
+            ∙ ap (λ n. advance_by plan step to times (after_dequeue plan n c)) is;
       }
 
 -- where an advance from `start` has come to
@@ -108,11 +108,11 @@ pub record Advancing (start : RunState) (to : ℕ) (now : RunState) : Type 0 whe
   pub later : start.pacer.clock ≤ now.pacer.clock
   pub within : now.pacer.clock ≤ max start.pacer.clock to
 
-starting : (start : RunState) (to : ℕ) → start.pacer.quantum ≡ start.plan.quantum → IsReady start → (start.pacer.clock < to) ⊎ (to ≤ start.pacer.clock) → Advancing start to (record start { pacer = aimed to start.pacer })
+starting : (start : RunState) (to : ℕ) → start.pacer.quantum ≡ start.plan.quantum → IsReady start → (start.pacer.clock < to) ⊎ (to ≤ start.pacer.clock) → Advancing start to (record start { pacer = after_aim to start.pacer })
 unfolding advance advance_by
 starting start to quantum ready (inl ahead) =
     let p : PacerState = start.pacer in
-    let is : aimed to p ≡ record p { aim = to; step = step_to p.quantum to p.clock } = if-lt p.clock to _ _ ahead in
+    let is : after_aim to p ≡ record p { aim = to; step = step_to p.quantum to p.clock } = if-lt p.clock to _ _ ahead in
     let with : PacerState → RunState = λ q. record start { pacer = q } in
     subst (λ (q : PacerState). Advancing start to (with q)) (sym is) (record {
       times = to - p.clock;
@@ -128,7 +128,7 @@ starting start to quantum ready (inl ahead) =
     })
 starting start to quantum ready (inr there) =
     let p : PacerState = start.pacer in
-    let is : aimed to p ≡ record p { aim = to } = if-ge p.clock to _ _ there in
+    let is : after_aim to p ≡ record p { aim = to } = if-ge p.clock to _ _ there in
     let with : PacerState → RunState = λ q. record start { pacer = q } in
     let none : to - p.clock ≡ 0 = omega arith in
     subst (λ (q : PacerState). Advancing start to (with q)) (sym is) (record {
@@ -144,7 +144,7 @@ starting start to quantum ready (inr there) =
       within = omega arith;
     })
 
-pub Advancing-start : (start at : RunState) (to : ℕ) → at ≡ record start { pacer = aimed to start.pacer } → start.pacer.quantum ≡ start.plan.quantum → IsReady start → Advancing start to at
+pub Advancing-start : (start at : RunState) (to : ℕ) → at ≡ record start { pacer = after_aim to start.pacer } → start.pacer.quantum ≡ start.plan.quantum → IsReady start → Advancing start to at
 Advancing-start start at to is quantum ready =
     subst (Advancing start to) (sym is) (starting start to quantum ready (cases_lt start.pacer.clock to))
 

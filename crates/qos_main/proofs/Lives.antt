@@ -9,7 +9,7 @@ use Rattle.qos_main.specs.declared.entry.Entry.{Entry}
 use Rattle.qos_main.specs.declared.entry.Entry.TheVariants.{Arrive, Dequeue}
 use Rattle.qos_main.specs.Pacer.{step_to}
 use Rattle.qos_main.specs.Schedule.{Schedule, schedule_of}
-use Rattle.qos_main.specs.Paced.{Plan, Course, stands, dequeued_at, moment_after, advance_by, advance, joined_at, arrived, open_course}
+use Rattle.qos_main.specs.Paced.{Plan, Course, schedule_in, after_dequeue, moment_after, advance_by, advance, after_join, arrived, open_course}
 use Rattle.qos_main.specs.Laws.{IsLive, AdvancesMoveOn, OpenJournalsGrow}
 use Rattle.qos_main.proofs.Schedules.{schedule_of-push}
 use Rattle.std.proofs.lemmas.Bool.{cond_both, leb-true, leb-false, ltb-false, ltb-true}
@@ -57,21 +57,21 @@ turn-time (suc visits) room s =
     (λ _. cond_both (eqb (length first.sends) 0) first both (HasPassed s.time) (λ _. at_first) (λ _. omega (arith, at_first, at_rest, count)))
 
 module _ (plan : Plan) where
-  dequeued-live : (c : Course) (now : ℕ) → IsLive plan (dequeued_at plan now c)
+  dequeued-live : (c : Course) (now : ℕ) → IsLive plan (after_dequeue plan now c)
   dequeued-live c now =
-      let port = (stands plan c).port in
+      let port = (schedule_in plan c).port in
       subst (λ (s : Schedule). 0 < length s.port.queue → s.went ≡ true → now < s.port.time) (sym (schedule_of-push plan.shaper c.journal (Dequeue now plan.burst)))
       (λ waits told.
       let passed = turn-time plan.burst plan.burst (record port { time = max port.time now }) in
       let some = ltb-true 0 (length (turn carried plan.burst plan.burst (record port { time = max port.time now })).sends) told in
       omega (arith, passed, some))
 
-  joined-live : (p : Pkt) (c : Course) → IsLive plan (joined_at plan p c)
+  joined-live : (p : Pkt) (c : Course) → IsLive plan (after_join plan p c)
   joined-live p c =
       let there : Course = record c { journal = c.journal ++ Arrive p ∷ [] } in
-      cond_both (leb (stands plan there).port.time there.clock) (dequeued_at plan there.clock there) there (IsLive plan)
+      cond_both (leb (schedule_in plan there).port.time there.clock) (after_dequeue plan there.clock there) there (IsLive plan)
       (λ _. dequeued-live there there.clock)
-      (λ no waits told. leb-false (stands plan there).port.time there.clock no)
+      (λ no waits told. leb-false (schedule_in plan there).port.time there.clock no)
 
   fold-live : (byte_time : Pkt → ℕ) (c : Course) (ps : List Pkt) → IsLive plan c → IsLive plan (fold (λ c p. arrived plan (byte_time p) p c) c ps)
   fold-live byte_time c [] live = live
@@ -81,17 +81,17 @@ module _ (plan : Plan) where
   later true clock time step past some = let beyond : clock < time = past refl in omega arith
   later false clock time step past some = omega arith
 
-  next-later : (c : Course) (step : ℕ) → IsLive plan c → 1 ≤ step → 0 < length (stands plan c).port.queue → c.clock < moment_after plan step c
-  next-later c step live some waits = later (stands plan c).went c.clock (stands plan c).port.time step (λ told. live waits told) some
+  next-later : (c : Course) (step : ℕ) → IsLive plan c → 1 ≤ step → 0 < length (schedule_in plan c).port.queue → c.clock < moment_after plan step c
+  next-later c step live some waits = later (schedule_in plan c).went c.clock (schedule_in plan c).port.time step (λ told. live waits told) some
 
   arrives-by : (step to times : ℕ) (c : Course) → 1 ≤ step → IsLive plan c → to - c.clock ≤ times → (advance_by plan step to times c).clock ≡ max c.clock to
   unfolding advance_by
   arrives-by step to zero c some live enough = omega arith
   arrives-by step to (suc times) c some live enough =
-      let queue = length (stands plan c).port.queue in
+      let queue = length (schedule_in plan c).port.queue in
       let m = moment_after plan step c in
       let at_to : Course = record c { clock = to } in
-      let more = advance_by plan step to times (dequeued_at plan m c) in
+      let more = advance_by plan step to times (after_dequeue plan m c) in
       let IsThere : Course → Type 0 = λ d. d.clock ≡ max c.clock to in
       cond_both (leb to c.clock) c (cond (eqb queue 0) at_to (cond (ltb to m) at_to more)) IsThere
       (λ yes. let there = leb-true to c.clock yes in omega (arith, there))
@@ -104,7 +104,7 @@ module _ (plan : Plan) where
       (λ within.
       let in_time = ltb-false to m within in
       let on = next-later c step live some (eqb-some queue waits) in
-      let rest = arrives-by step to times (dequeued_at plan m c) some (dequeued-live c m) (omega (arith, enough, on)) in
+      let rest = arrives-by step to times (after_dequeue plan m c) some (dequeued-live c m) (omega (arith, enough, on)) in
       omega (arith, ahead, in_time, rest))))
 
   pub moves_on : AdvancesMoveOn plan
@@ -130,10 +130,10 @@ module _ (plan : Plan) where
   unfolding advance_by
   advance_by-grows step to zero c = Grows-refl c c refl
   advance_by-grows step to (suc times) c =
-      let queue = length (stands plan c).port.queue in
+      let queue = length (schedule_in plan c).port.queue in
       let m = moment_after plan step c in
       let at_to : Course = record c { clock = to } in
-      let next = dequeued_at plan m c in
+      let next = after_dequeue plan m c in
       let more = advance_by plan step to times next in
       cond_both (leb to c.clock) c (cond (eqb queue 0) at_to (cond (ltb to m) at_to more)) (Grows c)
       (λ _. Grows-refl c c refl)
@@ -143,11 +143,11 @@ module _ (plan : Plan) where
       (λ _. Grows-refl c at_to refl)
       (λ _. Grows-trans c next more (Dequeue m plan.burst ∷ [], refl) (advance_by-grows step to times next))))
 
-  joined-grows : (p : Pkt) (c : Course) → Grows c (joined_at plan p c)
+  joined-grows : (p : Pkt) (c : Course) → Grows c (after_join plan p c)
   joined-grows p c =
       let there : Course = record c { journal = c.journal ++ Arrive p ∷ [] } in
-      let next = dequeued_at plan there.clock there in
-      cond_both (leb (stands plan there).port.time there.clock) next there (Grows c)
+      let next = after_dequeue plan there.clock there in
+      cond_both (leb (schedule_in plan there).port.time there.clock) next there (Grows c)
       (λ _. Grows-trans c there next (Arrive p ∷ [], refl) (Dequeue there.clock plan.burst ∷ [], refl))
       (λ _. (Arrive p ∷ [], refl))
 

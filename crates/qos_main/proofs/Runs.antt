@@ -95,9 +95,9 @@ run_after next port journal pushed pacer after told entry shaper pushed_is after
 
 -- a dequeue that sent something leaves port time past its moment
 pub past_now : (next port : PortState Pkt) (journal : List Entry) (entry : Entry) (now sent : ℕ) (told : Bool) → next ≡ (schedule_of next.shaper (journal ++ entry ∷ [])).port → next.shaper ≡ port.shaper → max port.time now + 24 * sent ≤ next.time → told ≡ nat_lt 0 sent → told ≡ true → now < (schedule_of port.shaper (journal ++ entry ∷ [])).port.time
-past_now next port journal entry now sent told stands shaper no_sooner told_is is =
+past_now next port journal entry now sent told schedule_in shaper no_sooner told_is is =
     let some : nat_lt 0 sent ≡ true = sym told_is ∙ is in
-    let same : next.time ≡ (schedule_of port.shaper (journal ++ entry ∷ [])).port.time = ap (λ (s : PortState Pkt). s.time) stands ∙ ap (λ (sh : Shaper). (schedule_of sh (journal ++ entry ∷ [])).port.time) shaper in
+    let same : next.time ≡ (schedule_of port.shaper (journal ++ entry ∷ [])).port.time = ap (λ (s : PortState Pkt). s.time) schedule_in ∙ ap (λ (sh : Shaper). (schedule_of sh (journal ++ entry ∷ [])).port.time) shaper in
     omega (arith, no_sooner, same, ltb-true 0 sent some)
 
 pub time-fits : (port : PortState Pkt) (went : Bool) (journal : List Entry) (sends : List (Departure Pkt)) (arrived dropped dequeues : ℕ) → IsSound port went journal sends arrived dropped dequeues → port.time ≤ 2 ^ 62

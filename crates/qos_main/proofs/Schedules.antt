@@ -5,11 +5,11 @@ use Rattle.qos_base.specs.declared.packet.Pkt.{Pkt}
 use Rattle.port_sched.specs.PortState.{Shaper}
 use Rattle.qos_main.specs.declared.entry.Entry.{Entry}
 use Rattle.qos_main.specs.declared.entry.Entry.TheVariants.{Arrive, Dequeue}
-use Rattle.qos_main.specs.Schedule.{begun, after_entry, schedule_of, arrivals_of, dequeues_in}
+use Rattle.qos_main.specs.Schedule.{at_start, after_entry, schedule_of, arrivals_of, dequeues_in}
 
 pub schedule_of-push : (shaper : Shaper) (journal : List Entry) (entry : Entry) → schedule_of shaper (journal ++ entry ∷ []) ≡ after_entry (schedule_of shaper journal) entry
 unfolding schedule_of
-schedule_of-push shaper journal entry = fold-append after_entry (begun shaper) journal (entry ∷ [])
+schedule_of-push shaper journal entry = fold-append after_entry (at_start shaper) journal (entry ∷ [])
 
 pub arrivals_of-dequeue : (journal : List Entry) (now room : ℕ) → arrivals_of (journal ++ Dequeue now room ∷ []) ≡ arrivals_of journal
 arrivals_of-dequeue [] now room = refl

@@ -16,9 +16,9 @@ seven (x0 ∷ x1 ∷ x2 ∷ x3 ∷ x4 ∷ x5 ∷ x6 ∷ []) a b c d e f g n ea e
 seven _ a b c d e f g n ea eb ec ed ee ef eg = absurd (omega arith)
 
 -- seven words that begin a run ask for what their numbers say
-pub begun : (word input output line size credits period : List ℕ) → begins_run word input output ≡ true → command_of (word ∷ input ∷ output ∷ line ∷ size ∷ credits ∷ period ∷ []) ≡ command_with input output (line_of line) (bucket_number_of size) (bucket_number_of credits) (bucket_number_of period)
+pub at_start : (word input output line size credits period : List ℕ) → begins_run word input output ≡ true → command_of (word ∷ input ∷ output ∷ line ∷ size ∷ credits ∷ period ∷ []) ≡ command_with input output (line_of line) (bucket_number_of size) (bucket_number_of credits) (bucket_number_of period)
 unfolding command_of
-begun word input output line size credits period h = rw h refl
+at_start word input output line size credits period h = rw h refl
 
 -- words that do not begin a run ask for no command
 pub not_begun : {X : Type 0} (text : X → List ℕ) (xs : List X) (a b c : X) → a ≡ get_or xs 0 a → b ≡ get_or xs 1 b → c ≡ get_or xs 2 c → begins_run (text a) (text b) (text c) ≡ false → command_of (map text xs) ≡ None

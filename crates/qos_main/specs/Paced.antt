@@ -1,17 +1,11 @@
 -- The paced journal of a list of arrivals.
 use Rattle.std.specs.Prelude.{ℕ, zero, suc, ◌+◌, ◌-◌, ◌==◌, nat_le, nat_lt, max, if◌then◌else◌, List, [], ◌∷◌, ◌++◌, length, fold}
 use Rattle.qos_base.specs.declared.packet.Pkt.{Pkt}
-use Rattle.port_sched.specs.PortState.{Shaper}
+use Rattle.qos_main.specs.declared.plan.Plan.{Plan}
 use Rattle.qos_main.specs.declared.entry.Entry.{Entry}
 use Rattle.qos_main.specs.declared.entry.Entry.TheVariants.{Arrive, Dequeue}
 use Rattle.qos_main.specs.Pacer.{step_to}
 use Rattle.qos_main.specs.Schedule.{Schedule, schedule_of}
-
--- the plan of a port: its bucket, the least idle step in byte times, and the room of a dequeue in packets
-pub record Plan : Type 0 where
-  pub shaper : Shaper
-  pub quantum : ℕ
-  pub burst : ℕ
 
 -- a run so far: its journal, and the clock in byte times of the line
 pub record Course : Type 0 where
@@ -20,46 +14,46 @@ pub record Course : Type 0 where
 
 module _ (plan : Plan) where
   -- where the scheduler stands
-  abbrev pub stands : Course → Schedule
-  stands c = schedule_of plan.shaper c.journal
+  abbrev pub schedule_in : Course → Schedule
+  schedule_in c = schedule_of plan.shaper c.journal
 
   -- a dequeue at a moment, to which the clock goes
-  abbrev pub dequeued_at : ℕ → Course → Course
-  dequeued_at now c = record { journal = c.journal ++ Dequeue now plan.burst ∷ []; clock = now }
+  abbrev pub after_dequeue : ℕ → Course → Course
+  after_dequeue now c = record { journal = c.journal ++ Dequeue now plan.burst ∷ []; clock = now }
 
   -- the next dequeue of an advance whose idle step is this: at port time where the last dequeue sent something, else a step further
   abbrev pub moment_after : ℕ → Course → ℕ
-  moment_after step c = if (stands c).went then max c.clock (stands c).port.time else c.clock + step
+  moment_after step c = if (schedule_in c).went then max c.clock (schedule_in c).port.time else c.clock + step
 
   -- An advance to b goes on until the clock is there. Where nothing waits, or the next dequeue would be past b, the clock goes to b at once. Each dequeue moves the clock on, so that b less the clock is enough for how often this is repeated.
   unfoldable pub advance_by : ℕ → ℕ → ℕ → Course → Course
   advance_by step b zero c = c
   advance_by step b (suc times) c =
       if nat_le b c.clock then c
-      else if length (stands c).port.queue == 0 then record c { clock = b }
+      else if length (schedule_in c).port.queue == 0 then record c { clock = b }
       else if nat_lt b (moment_after step c) then record c { clock = b }
-      else advance_by step b times (dequeued_at (moment_after step c) c)
+      else advance_by step b times (after_dequeue (moment_after step c) c)
 
   -- the whole advance keeps one step
   unfoldable pub advance : ℕ → Course → Course
   advance b c = advance_by (step_to plan.quantum b c.clock) b (b - c.clock) c
 
   -- An arrival: the clock is advanced to its byte time, the packet arrives, and a dequeue follows where port time is not past the clock.
-  abbrev pub joined_at : Pkt → Course → Course
-  joined_at p c =
+  abbrev pub after_join : Pkt → Course → Course
+  after_join p c =
       let there = record c { journal = c.journal ++ Arrive p ∷ [] } in
-      if nat_le (stands there).port.time there.clock then dequeued_at there.clock there else there
+      if nat_le (schedule_in there).port.time there.clock then after_dequeue there.clock there else there
 
   abbrev pub arrived : ℕ → Pkt → Course → Course
-  arrived b p c = joined_at p (advance b c)
+  arrived b p c = after_join p (advance b c)
 
   -- the course of these arrivals, each with its byte time
   unfoldable pub open_course : (Pkt → ℕ) → List Pkt → Course
   open_course byte_time arrivals =
       fold (λ c p. arrived (byte_time p) p c) (record { journal = []; clock = 0 }) arrivals
 
-  -- the same, and then the drain of so many byte times
-  abbrev pub paced_course : (Pkt → ℕ) → ℕ → List Pkt → Course
-  paced_course byte_time drain arrivals =
+  -- the same, and then the drain
+  abbrev pub paced_course : (Pkt → ℕ) → List Pkt → Course
+  paced_course byte_time arrivals =
       let open_ended = open_course byte_time arrivals in
-      advance (open_ended.clock + drain) open_ended
+      advance (open_ended.clock + plan.drain) open_ended

@@ -19,8 +19,8 @@ new_pacer quantum = record { quantum = quantum; clock = 0; aim = 0; step = quant
 abbrev pub step_to : ℕ → ℕ → ℕ → ℕ
 step_to quantum b clock = max quantum ((b - clock) / 1024 + 1)
 
-abbrev pub aimed : ℕ → PacerState → PacerState
-aimed b p = if nat_lt p.clock b then record p { aim = b; step = step_to p.quantum b p.clock } else record p { aim = b }
+abbrev pub after_aim : ℕ → PacerState → PacerState
+after_aim b p = if nat_lt p.clock b then record p { aim = b; step = step_to p.quantum b p.clock } else record p { aim = b }
 
 -- after a dequeue that sent something the next moment is port time, else it is a step further
 abbrev pub next_moment : PacerState → ℕ → ℕ

@@ -30,7 +30,7 @@ impl Model for Pacer {
 }
 
 impl Pacer {
-    ghost use Rattle.qos_main.specs.Pacer.{PacerState, new_pacer, aimed, next_in, after_at};
+    ghost use Rattle.qos_main.specs.Pacer.{PacerState, new_pacer, after_aim, next_in, after_at};
 
     /// A pacer with clock 0 and aim 0. `quantum` is the least step of an idle dequeue, 1 to 10^9 byte times.
     pub fn new(quantum: u64) -> Pacer
@@ -51,7 +51,7 @@ impl Pacer {
     pub fn aim(&mut self, b: u64)
         requires byte_time { b ≤ 2 ^ 62 }
         requires there { self.old.aim ≤ self.old.clock }
-        ensures { self.new ≡ aimed b self.old }
+        ensures { self.new ≡ after_aim b self.old }
     {
         self.aim = b;
         if b > self.clock {

@@ -44,9 +44,9 @@ impl Model for PortRun {
 }
 
 impl PortRun {
-    ghost use Rattle.qos_main.specs.Pacer.{PacerState, aimed, next_in, after_at};
+    ghost use Rattle.qos_main.specs.Pacer.{PacerState, after_aim, next_in, after_at};
     ghost use Rattle.qos_main.specs.Schedule.{Schedule, schedule_of, arrivals_of};
-    ghost use Rattle.qos_main.specs.Paced.{Course, advance, arrived, joined_at, stands};
+    ghost use Rattle.qos_main.specs.Paced.{Course, advance, arrived, after_join, schedule_in};
     ghost use Rattle.qos_main.specs.PortRun.{RunState, new_run, course_of, schedule, IsReady, IsBetween, IsOutcomeOf};
 
     /// A port at its start, whose bucket has `size` and earns `credits` every `period`: bytes, bytes and
@@ -116,7 +116,7 @@ impl PortRun {
         requires short { packet.wire ≤ 1522 }
         requires few { length (arrivals_of self.old.journal) < 2000000000 }
         requires clock { self.old.pacer.clock ≤ 2 ^ 57 }
-        ensures course { OnOk result (course_of self.new ≡ joined_at self.old.plan packet (course_of self.old)) }
+        ensures course { OnOk result (course_of self.new ≡ after_join self.old.plan packet (course_of self.old)) }
         ensures arrivals { OnOk result (arrivals_of self.new.journal ≡ arrivals_of self.old.journal ++ packet ∷ []) }
         ensures ready { OnOk result (IsReady self.new) }
         ensures plan { OnOk result (self.new.plan ≡ self.old.plan) }
@@ -132,7 +132,7 @@ impl PortRun {
     fn aim(&mut self, to: u64)
         requires to { to ≤ 2 ^ 57 }
         requires there { self.old.pacer.aim ≤ self.old.pacer.clock }
-        ensures aimed { self.new ≡ record self.old { pacer = aimed to self.old.pacer } }
+        ensures after_aim { self.new ≡ record self.old { pacer = after_aim to self.old.pacer } }
         ensures quantum { self.old.pacer.quantum ≡ self.old.plan.quantum }
     {
         self.pacer.aim(to);

@@ -1,5 +1,5 @@
-use Rattle.credit_book.proofs.BucketLemmas.{brought-credits}
+use Rattle.credit_book.proofs.BucketLemmas.{bucket_at-credits}
 use Rattle.credit_book.proofs.laws.once_is_stepwise.Goals as goal
 
 pub returns : goal.returns
-returns _ = brought-credits
+returns _ = bucket_at-credits

@@ -1,6 +1,6 @@
 use Rattle.std.proofs.Common.{◌≡◌, [], ◌∷◌, true, false, map, string_bytes, sym, ap, ◌∙◌, arith, rules}
 use Rattle.qos_main.specs.Words.{begins_run, command_of}
-use Rattle.qos_main.proofs.Seven.{other_count, seven, begun, not_begun, names_differ}
+use Rattle.qos_main.proofs.Seven.{other_count, seven, at_start, not_begun, names_differ}
 use Rattle.qos_main.proofs.words.read_command.Goals as goal
 
 pub returns-then-words-ne7-clause-exact : goal.returns-then-words-ne7-clause-exact
@@ -21,4 +21,4 @@ returns-clause-exact c =
     let texts : map string_bytes c.args.words.now ≡ c.as_str-word.result.now ∷ c.as_str-input.result.now ∷ c.as_str-output.result.now ∷ c.as_str.result.now ∷ c.as_str-2.result.now ∷ c.as_str-3.result.now ∷ c.as_str-4.result.now ∷ [] =
     ap (map string_bytes) words ∙ cc in
     let begins : begins_run c.as_str-word.result.now c.as_str-input.result.now c.as_str-output.result.now ≡ true = search rules in
-    rw (ap command_of texts ∙ begun c.as_str-word.result.now c.as_str-input.result.now c.as_str-output.result.now c.as_str.result.now c.as_str-2.result.now c.as_str-3.result.now c.as_str-4.result.now begins) c.with_numbers.ensures.exact
+    rw (ap command_of texts ∙ at_start c.as_str-word.result.now c.as_str-input.result.now c.as_str-output.result.now c.as_str.result.now c.as_str-2.result.now c.as_str-3.result.now c.as_str-4.result.now begins) c.with_numbers.ensures.exact
