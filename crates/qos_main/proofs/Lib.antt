@@ -1,16 +1,4 @@
 pub mod Choices
-pub mod Numbers
-pub mod Seven
-pub mod Adding
-pub mod Blocks
-pub mod Readings
 pub mod Schedules
-pub mod Runs
-pub mod Courses
-pub mod Advances
-pub mod Opens
-pub mod Outputs
-pub mod OutFiles
-pub mod Outcomes
-pub mod Statuses
 pub mod Lives
+pub mod Runs

@@ -3,67 +3,32 @@ use Rattle.std.proofs.Common.{◌≡◌, ◌<◌, ◌≤◌, ℕ, zero, suc, ◌
 use Rattle.std.proofs.lemmas.List.{append-nil}
 use Rattle.std.proofs.lemmas.List.Sums.{sum_by-cons, fold-append}
 use Rattle.qos_base.specs.declared.packet.Pkt.{Pkt}
-use Rattle.port_sched.specs.PortState.{PortState, tick}
-use Rattle.port_sched.specs.Dequeue.{Dequeued, cost_of, total_cost, longest_front, sends_from, visit, turn}
+use Rattle.port_sched.specs.PortState.{PortState}
+use Rattle.port_sched.specs.Dequeue.{dequeue}
+use Rattle.port_sched.specs.Laws.{itself, DequeueLaws}
 use Rattle.qos_main.specs.declared.entry.Entry.{Entry}
 use Rattle.qos_main.specs.declared.entry.Entry.TheVariants.{Arrive, Dequeue}
 use Rattle.qos_main.specs.Pacer.{step_to}
 use Rattle.qos_main.specs.Schedule.{Schedule, schedule_of}
-use Rattle.qos_main.specs.Paced.{Plan, Course, schedule_in, after_dequeue, moment_after, advance_by, advance, after_join, arrived, open_course}
+use Rattle.qos_main.specs.declared.plan.Plan.{Plan}
+use Rattle.qos_main.specs.Paced.{Course, schedule_in, after_dequeue, moment_after, advance_by, advance, after_join, after_arrival, open_course}
 use Rattle.qos_main.specs.Laws.{IsLive, AdvancesMoveOn, OpenJournalsGrow}
 use Rattle.qos_main.proofs.Schedules.{schedule_of-push}
 use Rattle.std.proofs.lemmas.Bool.{cond_both, leb-true, leb-false, ltb-false, ltb-true}
 use Rattle.qos_main.proofs.Choices.{eqb-some}
 
-abbrev carried : Pkt → Pkt
-carried p = p
+-- what holds of every dequeue of packets
+abbrev pub Kept : Type 0
+Kept = (now room : ℕ) (s : PortState Pkt) → DequeueLaws itself now room s
 
-length-sends_from : (time : ℕ) (ts : List Pkt) → length (sends_from carried time ts) ≡ length ts
-length-sends_from time [] = refl
-length-sends_from time (t ∷ ts) = ap suc (length-sends_from (time + cost_of t) ts)
-
--- each packet costs at least its overhead
-total_cost-least : (ts : List Pkt) → 24 * length ts ≤ total_cost carried ts
-total_cost-least [] = omega arith
-total_cost-least (t ∷ ts) =
-    let rest = total_cost-least ts in
-    let head = sum_by-cons (λ x. cost_of (carried x)) t ts in
-    omega (arith, head, rest)
-
-visit-time : (room : ℕ) (s : PortState Pkt) → s.time + 24 * length (visit carried room s).sends ≤ (visit carried room s).state.time
-visit-time room s =
-    let front = take (longest_front carried (tick s.time s).credits (min room (length s.queue)) s.queue) s.queue in
-    let count = length-sends_from s.time front in
-    let least = total_cost-least front in
-    omega (arith, count, least)
-
--- port time has passed by each packet that was sent since t
-abbrev HasPassed : ℕ → Dequeued Pkt → Type 0
-HasPassed t d = t + 24 * length d.sends ≤ d.state.time
-
-turn-time : (visits room : ℕ) (s : PortState Pkt) → HasPassed s.time (turn carried visits room s)
-unfolding turn
-turn-time zero room s = omega arith
-turn-time (suc visits) room s =
-    let nothing : Dequeued Pkt = record { sends = []; state = s } in
-    let first = visit carried room s in
-    let rest = turn carried visits (room - length first.sends) first.state in
-    let both : Dequeued Pkt = record { sends = first.sends ++ rest.sends; state = rest.state } in
-    let at_first = visit-time room s in
-    let at_rest = turn-time visits (room - length first.sends) first.state in
-    let count = length-append first.sends rest.sends in
-    cond_both (eqb room 0 || eqb (length s.queue) 0) nothing (cond (eqb (length first.sends) 0) first both) (HasPassed s.time)
-    (λ _. omega arith)
-    (λ _. cond_both (eqb (length first.sends) 0) first both (HasPassed s.time) (λ _. at_first) (λ _. omega (arith, at_first, at_rest, count)))
-
-module _ (plan : Plan) where
+module _ (kept : Kept) (plan : Plan) where
   dequeued-live : (c : Course) (now : ℕ) → IsLive plan (after_dequeue plan now c)
   dequeued-live c now =
       let port = (schedule_in plan c).port in
       subst (λ (s : Schedule). 0 < length s.port.queue → s.went ≡ true → now < s.port.time) (sym (schedule_of-push plan.shaper c.journal (Dequeue now plan.burst)))
       (λ waits told.
-      let passed = turn-time plan.burst plan.burst (record port { time = max port.time now }) in
-      let some = ltb-true 0 (length (turn carried plan.burst plan.burst (record port { time = max port.time now })).sends) told in
+      let passed = (kept now plan.burst port).keeps.no_sooner in
+      let some = ltb-true 0 (length (dequeue itself now plan.burst port).sends) told in
       omega (arith, passed, some))
 
   joined-live : (p : Pkt) (c : Course) → IsLive plan (after_join plan p c)
@@ -73,9 +38,9 @@ module _ (plan : Plan) where
       (λ _. dequeued-live there there.clock)
       (λ no waits told. leb-false (schedule_in plan there).port.time there.clock no)
 
-  fold-live : (byte_time : Pkt → ℕ) (c : Course) (ps : List Pkt) → IsLive plan c → IsLive plan (fold (λ c p. arrived plan (byte_time p) p c) c ps)
+  fold-live : (byte_time : Pkt → ℕ) (c : Course) (ps : List Pkt) → IsLive plan c → IsLive plan (fold (λ c p. after_arrival plan (byte_time p) p c) c ps)
   fold-live byte_time c [] live = live
-  fold-live byte_time c (p ∷ ps) live = fold-live byte_time (arrived plan (byte_time p) p c) ps (joined-live p (advance plan (byte_time p) c))
+  fold-live byte_time c (p ∷ ps) live = fold-live byte_time (after_arrival plan (byte_time p) p c) ps (joined-live p (advance plan (byte_time p) c))
 
   later : (went : Bool) (clock time step : ℕ) → (went ≡ true → clock < time) → 1 ≤ step → clock < cond went (max clock time) (clock + step)
   later true clock time step past some = let beyond : clock < time = past refl in omega arith
@@ -116,6 +81,7 @@ module _ (plan : Plan) where
     arrives = λ c b live. arrives-by (step_to plan.quantum b c.clock) b (b - c.clock) c (omega arith) live (omega arith);
   }
 
+module _ (plan : Plan) where
   -- the journal of the second course begins with that of the first
   abbrev Grows : Course → Course → Type 0
   Grows c d = (rest : List Entry) × (d.journal ≡ c.journal ++ rest)
@@ -151,21 +117,21 @@ module _ (plan : Plan) where
       (λ _. Grows-trans c there next (Arrive p ∷ [], refl) (Dequeue there.clock plan.burst ∷ [], refl))
       (λ _. (Arrive p ∷ [], refl))
 
-  arrived-grows : (b : ℕ) (p : Pkt) (c : Course) → Grows c (arrived plan b p c)
+  arrived-grows : (b : ℕ) (p : Pkt) (c : Course) → Grows c (after_arrival plan b p c)
   unfolding advance
   arrived-grows b p c =
-      Grows-trans c (advance plan b c) (arrived plan b p c) (advance_by-grows (step_to plan.quantum b c.clock) b (b - c.clock) c) (joined-grows p (advance plan b c))
+      Grows-trans c (advance plan b c) (after_arrival plan b p c) (advance_by-grows (step_to plan.quantum b c.clock) b (b - c.clock) c) (joined-grows p (advance plan b c))
 
-  fold-grows : (byte_time : Pkt → ℕ) (c : Course) (ps : List Pkt) → Grows c (fold (λ c p. arrived plan (byte_time p) p c) c ps)
+  fold-grows : (byte_time : Pkt → ℕ) (c : Course) (ps : List Pkt) → Grows c (fold (λ c p. after_arrival plan (byte_time p) p c) c ps)
   fold-grows byte_time c [] = Grows-refl c c refl
   fold-grows byte_time c (p ∷ ps) =
-      let next = arrived plan (byte_time p) p c in
-      Grows-trans c next (fold (λ c p. arrived plan (byte_time p) p c) next ps) (arrived-grows (byte_time p) p c) (fold-grows byte_time next ps)
+      let next = after_arrival plan (byte_time p) p c in
+      Grows-trans c next (fold (λ c p. after_arrival plan (byte_time p) p c) next ps) (arrived-grows (byte_time p) p c) (fold-grows byte_time next ps)
 
   pub journals_grow : OpenJournalsGrow plan
   unfolding open_course
   journals_grow byte_time arrivals more =
       let start : Course = record { journal = []; clock = 0 } in
-      let joined = fold-append (λ c p. arrived plan (byte_time p) p c) start arrivals more in
+      let joined = fold-append (λ c p. after_arrival plan (byte_time p) p c) start arrivals more in
       let grown = fold-grows byte_time (open_course plan byte_time arrivals) more in
       (grown.0, ap (λ c. c.journal) joined ∙ grown.1)

@@ -1,187 +1,246 @@
 -- The run of a port stays sound.
-use Rattle.std.proofs.Common.{◌≡◌, ◌<◌, ◌≤◌, ◌^◌, ℕ, ◌+◌, ◌*◌, Bool, true, false, ◌↔◌, Result, Ok, Err, max, List, [], ◌∷◌, ◌++◌, length, nat_lt, refl, sym, ap, ◌∙◌, subst, ⊎_elim, append_assoc, length-append, arith}
-use Rattle.std.specs.List.Sorted.{IsPermutation}
-use Rattle.std.proofs.lemmas.List.{length-map}
-use Rattle.std.proofs.lemmas.List.Sorted.{length_permutation, IsPermutation-refl, IsPermutation-trans, IsPermutation-append_left, IsPermutation-append_right, IsPermutation-to_front}
+use Rattle.std.proofs.Common.{◌≡◌, ◌<◌, ◌≤◌, ◌^◌, ℕ, ◌+◌, ◌*◌, Bool, true, false, max, List, [], ◌∷◌, ◌++◌, length, map, nat_lt, drop, refl, sym, ap, ◌∙◌, subst, ⊎_elim, length-append, arith}
+use Rattle.std.specs.List.{All}
+use Rattle.std.proofs.lemmas.List.{length-map, map-append, drop_at}
+use Rattle.std.proofs.lemmas.List.Elements.{All-drop, All-push}
 use Rattle.std.proofs.lemmas.Bool.{cases_lt, false≢true, ltb-true}
-use mir.Val.{bool_byte}
-use Rattle.std.specs.Result.{IsOk, OnOk, IfErr, is_err}
 use Rattle.qos_base.specs.declared.packet.Pkt.{Pkt}
 use Rattle.qos_base.specs.declared.packet.Departure.{Departure}
-use Rattle.qos_base.specs.declared.packet.TailFull.{TailFull}
-use Rattle.port_sched.specs.PortState.{Shaper, PortState, start_of, joined}
+use Rattle.port_sched.specs.declared.plain.TheConstants.{MTU, OVERHEAD, QUEUE_SIZE}
+use Rattle.port_sched.specs.declared.shaper.Shaper.{Shaper}
+use Rattle.port_sched.specs.PortState.{PortState, start_of, after_arrival}
 use Rattle.port_sched.specs.Dequeue.{Dequeued, dequeue}
+use Rattle.port_sched.specs.Laws.{itself, parcels, AreWithin, seen_port, seen_send, DequeueLaws}
+use Rattle.qos_main.specs.declared.limits.TheConstants.{MAX_RECORDS}
+use Rattle.qos_main.specs.declared.plan.Plan.{Plan}
+use Rattle.qos_main.specs.declared.tally.Tally.{Tally}
 use Rattle.qos_main.specs.declared.entry.Entry.{Entry}
 use Rattle.qos_main.specs.declared.entry.Entry.TheVariants.{Arrive, Dequeue}
-use Rattle.qos_main.specs.Schedule.{Schedule, after_entry, schedule_of, arrivals_of}
-use Rattle.qos_main.specs.Pacer.{PacerState}
-use Rattle.qos_main.specs.PortRun.{RunState, IsSound, parcels}
+use Rattle.qos_main.specs.Schedule.{Schedule, after_entry, schedule_of, arrivals_of, dequeues_in}
+use Rattle.qos_main.specs.Plan.{IsPlan}
+use Rattle.qos_main.specs.Pacer.{PacerState, new_pacer}
+use Rattle.qos_main.specs.PortRun.{RunState, IsSound, IsTally, HasDequeued}
 use Rattle.qos_main.proofs.Schedules.{schedule_of-push, arrivals_of-dequeue, dequeues_in-dequeue, arrivals_of-arrive, dequeues_in-arrive}
 use Rattle.qos_main.proofs.Choices.{if-lt, if-ge}
 
--- a run by what a contract sees of it
-abbrev pub run_of : Shaper → List Entry → PacerState → RunState
-run_of shaper journal pacer = record { plan = record { shaper = shaper; quantum = pacer.quantum; burst = 32 }; journal = journal; pacer = pacer }
+module _ {T : Type 0} (packet : T → Pkt) where
+  -- a port at its start
+  fresh : (plan : Plan) → IsPlan plan → IsSound packet plan (start_of plan.shaper) (new_pacer plan.quantum) [] (record { arrived = 0; dropped = 0; dequeues = 0 })
+  unfolding schedule_of
+  fresh plan plan_is = record {
+    plan_is = plan_is;
+    port_is = refl;
+    went_is = refl;
+    quantum_is = refl;
+    tally_is = record { arrived = refl; dropped = refl; dequeues = refl };
+    account = refl;
+    few = omega arith;
+    short = λ k d no. absurd (omega arith);
+    time = omega arith;
+  }
 
-abbrev carried : Pkt → Pkt
-carried p = p
+  pub IsSound-new : (plan : Plan) (port : PortState T) (pacer : PacerState) (journal : List Entry) → IsPlan plan → port ≡ start_of plan.shaper → pacer ≡ new_pacer plan.quantum → journal ≡ [] → IsSound packet plan port pacer journal (record { arrived = 0; dropped = 0; dequeues = 0 })
+  IsSound-new plan port pacer journal plan_is starts paces empty =
+      let none : Tally = record { arrived = 0; dropped = 0; dequeues = 0 } in
+      subst (λ (p : PortState T). IsSound packet plan p pacer journal none) (sym starts)
+      (subst (λ (p : PacerState). IsSound packet plan (start_of plan.shaper) p journal none) (sym paces)
+      (subst (λ (js : List Entry). IsSound packet plan (start_of plan.shaper) (new_pacer plan.quantum) js none) (sym empty) (fresh plan plan_is)))
 
-permutation_along : (xs xs' ys ys' : List Pkt) → xs ≡ xs' → ys ≡ ys' → IsPermutation xs ys → IsPermutation xs' ys'
-permutation_along xs xs' ys ys' e f h = subst (λ zs. IsPermutation xs' zs) f (subst (λ zs. IsPermutation zs ys) e h)
+  module _ (plan : Plan) (port : PortState T) (pacer : PacerState) (journal : List Entry) (tally : Tally) where
+    sends-few : IsSound packet plan port pacer journal tally → length (schedule_of plan.shaper journal).sends ≤ MAX_RECORDS
+    sends-few sound =
+        let total = sound.account in
+        let few = sound.few in
+        let counted = sound.tally_is.arrived in
+        omega (arith, total, few, counted)
 
--- at most as many packets were sent as arrived
-pub sends-few : (port : PortState Pkt) (went : Bool) (journal : List Entry) (sends : List (Departure Pkt)) (arrived dropped dequeues : ℕ) → IsSound port went journal sends arrived dropped dequeues → length sends ≤ arrived
-sends-few port went journal sends arrived dropped dequeues sound =
-    let total = length_permutation _ _ sound.account in
-    let outer = length-append (parcels sends ++ port.queue) (schedule_of port.shaper journal).drops in
-    let inner = length-append (parcels sends) port.queue in
-    let sent = length-map sends (λ (d : Departure Pkt). d.parcel) in
-    omega (arith, total, outer, inner, sent, sound.arrived_is)
+    pub time-fits : IsSound packet plan port pacer journal tally → port.time ≤ 2 ^ 62
+    time-fits sound =
+        let few = sends-few sound in
+        let time = sound.time in
+        omega (arith, few, time)
 
-not_lt : (m n : ℕ) → (m < n → ⊥) → n ≤ m
-not_lt m n not_below = ⊎_elim (λ (below : m < n). absurd (not_below below)) (λ (above : n ≤ m). above) (cases_lt m n)
+    pub dropped-few : IsSound packet plan port pacer journal tally → tally.dropped ≤ MAX_RECORDS
+    dropped-few sound =
+        let total = sound.account in
+        let few = sound.few in
+        let counted = sound.tally_is.arrived in
+        let dropped = sound.tally_is.dropped in
+        omega (arith, total, few, counted, dropped)
 
--- one packet more waits
-one_more : (arrivals sent queue drops : List Pkt) (p : Pkt) → IsPermutation arrivals ((sent ++ queue) ++ drops) → IsPermutation (arrivals ++ p ∷ []) ((sent ++ (queue ++ p ∷ [])) ++ drops)
-one_more arrivals sent queue drops p account =
-    let at_end = IsPermutation-append_left (p ∷ []) arrivals ((sent ++ queue) ++ drops) account in
-    let swapped = IsPermutation-append_right (sent ++ queue) (drops ++ p ∷ []) (p ∷ drops) (IsPermutation-to_front drops p) in
-    let regroup_before : ((sent ++ queue) ++ drops) ++ p ∷ [] ≡ (sent ++ queue) ++ (drops ++ p ∷ []) = append_assoc (sent ++ queue) drops (p ∷ []) in
-    let regroup_after : (sent ++ queue) ++ (p ∷ drops) ≡ (sent ++ (queue ++ p ∷ [])) ++ drops =
-    sym (append_assoc (sent ++ queue) (p ∷ []) drops) ∙ ap (λ ps. ps ++ drops) (append_assoc sent queue (p ∷ [])) in
-    IsPermutation-trans _ _ _ (permutation_along _ _ _ _ refl regroup_before at_end) (permutation_along _ _ _ _ refl regroup_after swapped)
+    abbrev before : Schedule
+    before = schedule_of plan.shaper journal
 
-IsSound-start : (shaper : Shaper) → IsSound (start_of shaper) false [] [] 0 0 0
-unfolding schedule_of
-IsSound-start shaper = record {
-  port_is = refl;
-  sends_are = refl;
-  went_is = refl;
-  dropped_is = refl;
-  arrived_is = refl;
-  dequeues_is = refl;
-  account = IsPermutation-refl [];
-  few = omega arith;
-  time = omega arith;
-}
+    within-rest : (ts us all : List T) → ts ++ us ≡ all → AreWithin packet MTU all → AreWithin packet MTU us
+    within-rest ts us all is short =
+        let P : T → Type 0 = λ (x : T). (packet x).wire ≤ MTU in
+        let dropped = All-drop P (length ts) (ts ++ us) (subst (All P) (sym is) short) in
+        subst (All P) (drop_at ts us (length ts) refl) dropped
 
-module _ (port next : PortState Pkt) (went again : Bool) (journal : List Entry) (sends grown : List (Departure Pkt)) (arrived dropped dequeues now sent : ℕ) where
-  pub IsSound-dequeued : IsSound port went journal sends arrived dropped dequeues → now ≤ 2 ^ 57 → next ≡ (dequeue carried now 32 port).state → grown ≡ sends ++ (dequeue carried now 32 port).sends → sent ≡ length (dequeue carried now 32 port).sends → parcels grown ++ next.queue ≡ parcels sends ++ port.queue → next.shaper ≡ port.shaper → next.time ≤ max port.time now + 1546 * sent → again ≡ nat_lt 0 sent → IsSound next again (journal ++ Dequeue now 32 ∷ []) grown arrived dropped (dequeues + 1)
-  IsSound-dequeued sound in_time state more count order shaper no_later told =
-      let s = schedule_of port.shaper journal in
-      let same : dequeue carried now 32 port ≡ dequeue carried now 32 s.port = ap (dequeue carried now 32) sound.port_is in
-      let step : schedule_of next.shaper (journal ++ Dequeue now 32 ∷ []) ≡ after_entry s (Dequeue now 32) = ap (λ sh. schedule_of sh (journal ++ Dequeue now 32 ∷ [])) shaper ∙ schedule_of-push port.shaper journal (Dequeue now 32) in
-      let lengths = ap length more ∙ length-append sends (dequeue carried now 32 port).sends in
-      let before = sound.time in
-      record {
-        port_is = state ∙ ap (λ (d : Dequeued Pkt). d.state) same ∙ sym (ap (λ (x : Schedule). x.port) step);
-        sends_are = more ∙ ap (λ sent. sent ++ (dequeue carried now 32 port).sends) sound.sends_are ∙ ap (λ (d : Dequeued Pkt). s.sends ++ d.sends) same ∙ sym (ap (λ (x : Schedule). x.sends) step);
-        went_is = told ∙ ap (nat_lt 0) count ∙ ap (λ (d : Dequeued Pkt). nat_lt 0 (length d.sends)) same ∙ sym (ap (λ (x : Schedule). x.went) step);
-        dropped_is = sound.dropped_is ∙ sym (ap (λ (x : Schedule). length x.drops) step);
-        arrived_is = sound.arrived_is ∙ ap length (sym (arrivals_of-dequeue journal now 32));
-        dequeues_is = ap (λ n. n + 1) sound.dequeues_is ∙ sym (dequeues_in-dequeue journal now 32);
-        account = permutation_along _ _ _ _ (sym (arrivals_of-dequeue journal now 32)) (ap (λ ps. ps ++ s.drops) (sym order) ∙ ap (λ (x : Schedule). (parcels grown ++ next.queue) ++ x.drops) (sym step)) sound.account;
-        few = sound.few;
-        time = omega (arith, lengths, count);
-      }
+    module _ (now : ℕ) where
+      abbrev journal_after : List Entry
+      journal_after = journal ++ Dequeue now plan.burst ∷ []
 
--- what a contract sees of a run after a dequeue
-pub run_after : (next port : PortState Pkt) (journal pushed : List Entry) (pacer after : PacerState) (told : Bool) (entry : Entry) → next.shaper ≡ port.shaper → pushed ≡ journal ++ entry ∷ [] → after ≡ record pacer { went = told } → told ≡ (schedule_of next.shaper (journal ++ entry ∷ [])).went → run_of next.shaper pushed after ≡ run_of port.shaper (journal ++ entry ∷ []) (record pacer { went = (schedule_of port.shaper (journal ++ entry ∷ [])).went })
-run_after next port journal pushed pacer after told entry shaper pushed_is after_is told_is =
-    ap (λ (sh : Shaper). run_of sh pushed after) shaper
-    ∙ ap (λ (js : List Entry). run_of port.shaper js after) pushed_is
-    ∙ ap (λ (p : PacerState). run_of port.shaper (journal ++ entry ∷ []) p) after_is
-    ∙ ap (λ (b : Bool). run_of port.shaper (journal ++ entry ∷ []) (record pacer { went = b })) (told_is ∙ ap (λ (sh : Shaper). (schedule_of sh (journal ++ entry ∷ [])).went) shaper)
+      abbrev made : Dequeued T
+      made = dequeue packet now plan.burst port
 
--- a dequeue that sent something leaves port time past its moment
-pub past_now : (next port : PortState Pkt) (journal : List Entry) (entry : Entry) (now sent : ℕ) (told : Bool) → next ≡ (schedule_of next.shaper (journal ++ entry ∷ [])).port → next.shaper ≡ port.shaper → max port.time now + 24 * sent ≤ next.time → told ≡ nat_lt 0 sent → told ≡ true → now < (schedule_of port.shaper (journal ++ entry ∷ [])).port.time
-past_now next port journal entry now sent told schedule_in shaper no_sooner told_is is =
-    let some : nat_lt 0 sent ≡ true = sym told_is ∙ is in
-    let same : next.time ≡ (schedule_of port.shaper (journal ++ entry ∷ [])).port.time = ap (λ (s : PortState Pkt). s.time) schedule_in ∙ ap (λ (sh : Shaper). (schedule_of sh (journal ++ entry ∷ [])).port.time) shaper in
-    omega (arith, no_sooner, same, ltb-true 0 sent some)
+      step : schedule_of plan.shaper journal_after ≡ after_entry before (Dequeue now plan.burst)
+      step = schedule_of-push plan.shaper journal (Dequeue now plan.burst)
 
-pub time-fits : (port : PortState Pkt) (went : Bool) (journal : List Entry) (sends : List (Departure Pkt)) (arrived dropped dequeues : ℕ) → IsSound port went journal sends arrived dropped dequeues → port.time ≤ 2 ^ 62
-time-fits port went journal sends arrived dropped dequeues sound =
-    let few = sends-few port went journal sends arrived dropped dequeues sound in
-    let within = sound.few in
-    let time = sound.time in
-    omega arith
+      -- the sends, in the words of the schedule
+      sends-made : IsSound packet plan port pacer journal tally → DequeueLaws packet now plan.burst port → map (seen_send packet) made.sends ≡ (dequeue itself now plan.burst before.port).sends
+      sends-made sound laws = laws.seen_sends ∙ ap (λ (s : PortState Pkt). (dequeue itself now plan.burst s).sends) sound.port_is
 
-pub dropped-few : (port : PortState Pkt) (went : Bool) (journal : List Entry) (sends : List (Departure Pkt)) (arrived dropped dequeues : ℕ) → IsSound port went journal sends arrived dropped dequeues → dropped ≤ arrived
-dropped-few port went journal sends arrived dropped dequeues sound =
-    let total = length_permutation _ _ sound.account in
-    let outer = length-append (parcels sends ++ port.queue) (schedule_of port.shaper journal).drops in
-    omega (arith, total, outer, sound.arrived_is, sound.dropped_is)
+      count-made : IsSound packet plan port pacer journal tally → DequeueLaws packet now plan.burst port → length (dequeue itself now plan.burst before.port).sends ≡ length made.sends
+      count-made sound laws = ap length (sym (sends-made sound laws)) ∙ length-map made.sends (seen_send packet)
 
--- a port at its start
-pub IsSound-new : (shaper : Shaper) (port : PortState Pkt) (went : Bool) (journal : List Entry) (sends : List (Departure Pkt)) → port ≡ start_of shaper → went ≡ false → journal ≡ [] → sends ≡ [] → IsSound port went journal sends 0 0 0
-IsSound-new shaper port went journal sends starts not_yet empty nothing =
-    let fresh : IsSound (start_of shaper) false [] [] 0 0 0 = IsSound-start shaper in
-    subst (λ (p : PortState Pkt). IsSound p went journal sends 0 0 0) (sym starts)
-    (subst (λ (b : Bool). IsSound (start_of shaper) b journal sends 0 0 0) (sym not_yet)
-    (subst (λ (js : List Entry). IsSound (start_of shaper) false js sends 0 0 0) (sym empty)
-    (subst (λ (ds : List (Departure Pkt)). IsSound (start_of shaper) false [] ds 0 0 0) (sym nothing) fresh)))
+      state-made : IsSound packet plan port pacer journal tally → DequeueLaws packet now plan.burst port → seen_port packet made.state ≡ (dequeue itself now plan.burst before.port).state
+      state-made sound laws = laws.seen_state ∙ ap (λ (s : PortState Pkt). (dequeue itself now plan.burst s).state) sound.port_is
 
--- after an arrival that joined the queue, or was turned away
-module _ (port next : PortState Pkt) (went : Bool) (journal : List Entry) (sends : List (Departure Pkt)) (arrived dropped dequeues : ℕ) (p : Pkt) where
-  IsSound-joined : IsSound port went journal sends arrived dropped dequeues → arrived < 2000000000 → length port.queue < 64 → next ≡ joined p port → IsSound next went (journal ++ Arrive p ∷ []) sends (arrived + 1) dropped dequeues
-  IsSound-joined sound few room is =
-      let s = schedule_of port.shaper journal in
-      let shaper : next.shaper ≡ port.shaper = ap (λ (x : PortState Pkt). x.shaper) is in
-      let fits : length s.port.queue < 64 = rw (ap (λ (x : PortState Pkt). length x.queue) sound.port_is) at room in
-      let step : schedule_of next.shaper (journal ++ Arrive p ∷ []) ≡ record s { port = joined p s.port } = ap (λ sh. schedule_of sh (journal ++ Arrive p ∷ [])) shaper ∙ schedule_of-push port.shaper journal (Arrive p) ∙ if-lt (length s.port.queue) 64 _ _ fits in
-      let queue : next.queue ≡ port.queue ++ p ∷ [] = ap (λ (x : PortState Pkt). x.queue) is in
-      let more = length-append (arrivals_of journal) (p ∷ []) in
-      let time : next.time ≡ port.time = ap (λ (x : PortState Pkt). x.time) is in
-      let before = sound.time in
-      record {
-        port_is = is ∙ ap (joined p) sound.port_is ∙ sym (ap (λ (x : Schedule). x.port) step);
-        sends_are = sound.sends_are ∙ sym (ap (λ (x : Schedule). x.sends) step);
-        went_is = sound.went_is ∙ sym (ap (λ (x : Schedule). x.went) step);
-        dropped_is = sound.dropped_is ∙ sym (ap (λ (x : Schedule). length x.drops) step);
-        arrived_is = ap (λ n. n + 1) sound.arrived_is ∙ sym more ∙ ap length (sym (arrivals_of-arrive journal p));
-        dequeues_is = sound.dequeues_is ∙ sym (dequeues_in-arrive journal p);
-        account = permutation_along _ _ _ _ (sym (arrivals_of-arrive journal p)) (ap (λ ps. (parcels sends ++ ps) ++ s.drops) (sym queue) ∙ ap (λ (x : Schedule). (parcels sends ++ next.queue) ++ x.drops) (sym step)) (one_more (arrivals_of journal) (parcels sends) port.queue s.drops p sound.account);
-        few = omega arith;
-        time = omega arith;
-      }
+      pub schedule-sends : IsSound packet plan port pacer journal tally → DequeueLaws packet now plan.burst port → (schedule_of plan.shaper journal_after).sends ≡ before.sends ++ map (seen_send packet) made.sends
+      schedule-sends sound laws = ap (λ (s : Schedule). s.sends) step ∙ ap (λ ds. before.sends ++ ds) (sym (sends-made sound laws))
 
-  IsSound-turned_away : IsSound port went journal sends arrived dropped dequeues → arrived < 2000000000 → 64 ≤ length port.queue → next ≡ port → IsSound next went (journal ++ Arrive p ∷ []) sends (arrived + 1) (dropped + 1) dequeues
-  IsSound-turned_away sound few full is =
-      let s = schedule_of port.shaper journal in
-      let shaper : next.shaper ≡ port.shaper = ap (λ (x : PortState Pkt). x.shaper) is in
-      let full_there : 64 ≤ length s.port.queue = rw (ap (λ (x : PortState Pkt). length x.queue) sound.port_is) at full in
-      let step : schedule_of next.shaper (journal ++ Arrive p ∷ []) ≡ record s { drops = s.drops ++ p ∷ [] } = ap (λ sh. schedule_of sh (journal ++ Arrive p ∷ [])) shaper ∙ schedule_of-push port.shaper journal (Arrive p) ∙ if-ge (length s.port.queue) 64 _ _ full_there in
-      let queue : next.queue ≡ port.queue = ap (λ (x : PortState Pkt). x.queue) is in
-      let more = length-append (arrivals_of journal) (p ∷ []) in
-      let time : next.time ≡ port.time = ap (λ (x : PortState Pkt). x.time) is in
-      let before = sound.time in
-      record {
-        port_is = is ∙ sound.port_is ∙ sym (ap (λ (x : Schedule). x.port) step);
-        sends_are = sound.sends_are ∙ sym (ap (λ (x : Schedule). x.sends) step);
-        went_is = sound.went_is ∙ sym (ap (λ (x : Schedule). x.went) step);
-        dropped_is = ap (λ n. n + 1) sound.dropped_is ∙ sym (length-append s.drops (p ∷ [])) ∙ sym (ap (λ (x : Schedule). length x.drops) step);
-        arrived_is = ap (λ n. n + 1) sound.arrived_is ∙ sym more ∙ ap length (sym (arrivals_of-arrive journal p));
-        dequeues_is = sound.dequeues_is ∙ sym (dequeues_in-arrive journal p);
-        account = permutation_along _ _ _ _ (sym (arrivals_of-arrive journal p)) (append_assoc (parcels sends ++ port.queue) s.drops (p ∷ []) ∙ ap (λ ps. (parcels sends ++ ps) ++ (s.drops ++ p ∷ [])) (sym queue) ∙ ap (λ (x : Schedule). (parcels sends ++ next.queue) ++ x.drops) (sym step)) (IsPermutation-append_left (p ∷ []) (arrivals_of journal) ((parcels sends ++ port.queue) ++ s.drops) sound.account);
-        few = omega arith;
-        time = omega arith;
-      }
+      pub schedule-went : IsSound packet plan port pacer journal tally → DequeueLaws packet now plan.burst port → (schedule_of plan.shaper journal_after).went ≡ nat_lt 0 (length made.sends)
+      schedule-went sound laws = ap (λ (s : Schedule). s.went) step ∙ ap (nat_lt 0) (count-made sound laws)
 
-  pub IsSound-arrived : (answer : Result (Unit {0}) (TailFull Pkt)) (turned_away : ℕ) → turned_away ≡ bool_byte (is_err answer) → IsSound port went journal sends arrived dropped dequeues → arrived < 2000000000 → (IsOk answer ↔ (length port.queue < 64)) → OnOk answer (next ≡ joined p port) → IfErr answer (λ e. (e.parcel ≡ p) × (next ≡ port)) → IsSound next went (journal ++ Arrive p ∷ []) sends (arrived + 1) (dropped + turned_away) dequeues
-  IsSound-arrived (Ok u) turned_away none sound few room joined_is refused =
-      let same : dropped ≡ dropped + turned_away = omega (arith, none) in
-      subst (λ n. IsSound next went (journal ++ Arrive p ∷ []) sends (arrived + 1) n dequeues) same (IsSound-joined sound few (room.0 refl) joined_is)
-  IsSound-arrived (Err e) turned_away one sound few room joined_is refused =
-      let more : dropped + 1 ≡ dropped + turned_away = omega (arith, one) in
-      subst (λ n. IsSound next went (journal ++ Arrive p ∷ []) sends (arrived + 1) n dequeues) more (IsSound-turned_away sound few (not_lt (length port.queue) 64 (λ fits. false≢true (room.1 fits))) refused.1)
+      schedule-port : IsSound packet plan port pacer journal tally → DequeueLaws packet now plan.burst port → seen_port packet made.state ≡ (schedule_of plan.shaper journal_after).port
+      schedule-port sound laws = state-made sound laws ∙ sym (ap (λ (s : Schedule). s.port) step)
 
--- it adds at most one
-pub bool_byte-le : (b : Bool) → bool_byte b ≤ 1
-bool_byte-le true = omega arith
-bool_byte-le false = omega arith
+      -- a dequeue that sent something leaves port time past its moment
+      pub past_now : IsSound packet plan port pacer journal tally → DequeueLaws packet now plan.burst port → nat_lt 0 (length made.sends) ≡ true → now < (schedule_of plan.shaper journal_after).port.time
+      past_now sound laws some =
+          let sooner = laws.keeps.no_sooner in
+          let same : made.state.time ≡ (schedule_of plan.shaper journal_after).port.time = ap (λ (s : PortState Pkt). s.time) (schedule-port sound laws) in
+          omega (arith, sooner, same, ltb-true 0 (length made.sends) some)
 
--- an arrival leaves the bucket's numbers
-pub arrive-shaper : (next port : PortState Pkt) (p : Pkt) (answer : Result (Unit {0}) (TailFull Pkt)) → OnOk answer (next ≡ joined p port) → IfErr answer (λ e. (e.parcel ≡ p) × (next ≡ port)) → next.shaper ≡ port.shaper
-arrive-shaper next port p (Ok u) joined_is refused = ap (λ (x : PortState Pkt). x.shaper) joined_is
-arrive-shaper next port p (Err e) joined_is refused = ap (λ (x : PortState Pkt). x.shaper) refused.1
+      pub IsSound-dequeued : (next : PortState T) (after : PacerState) (sent : ℕ) → IsSound packet plan port pacer journal tally → DequeueLaws packet now plan.burst port → now ≤ 2 ^ 57 → next ≡ made.state → sent ≡ length made.sends → after ≡ record pacer { went = nat_lt 0 sent } → IsSound packet plan next after journal_after (record tally { dequeues = tally.dequeues + 1 })
+      IsSound-dequeued next after sent sound laws in_time next_is count after_is =
+          let keeps = laws.keeps in
+          let lengths = ap length keeps.order in
+          let joined = length-append (parcels made.sends) made.state.queue in
+          let parcels_count = length-map made.sends (λ (d : Departure T). d.parcel) in
+          let all = length-append before.sends (map (seen_send packet) made.sends) in
+          let seen_count = length-map made.sends (seen_send packet) in
+          let total = sound.account in
+          let waited : length before.port.queue ≡ length port.queue = sym (ap (λ (s : PortState Pkt). length s.queue) sound.port_is) ∙ length-map port.queue packet in
+          let waits : length (schedule_of plan.shaper journal_after).port.queue ≡ length made.state.queue = sym (ap (λ (s : PortState Pkt). length s.queue) (schedule-port sound laws)) ∙ length-map made.state.queue packet in
+          let sends = ap length (schedule-sends sound laws) in
+          let drops : length (schedule_of plan.shaper journal_after).drops ≡ length before.drops = ap (λ (s : Schedule). length s.drops) step in
+          let arrivals : length (arrivals_of journal_after) ≡ length (arrivals_of journal) = ap length (arrivals_of-dequeue journal now plan.burst) in
+          let later = keeps.no_later MTU sound.short in
+          let time = sound.time in
+          let next_time : next.time ≡ made.state.time = ap (λ (s : PortState T). s.time) next_is in
+          let IsQueue : List T → Type 0 = AreWithin packet MTU in
+          record {
+            plan_is = sound.plan_is;
+            port_is = ap (seen_port packet) next_is ∙ schedule-port sound laws;
+            went_is = ap (λ (p : PacerState). p.went) after_is ∙ ap (nat_lt 0) count ∙ sym (schedule-went sound laws);
+            quantum_is = ap (λ (p : PacerState). p.quantum) after_is ∙ sound.quantum_is;
+            tally_is = record {
+              arrived = sound.tally_is.arrived ∙ sym arrivals;
+              dropped = sound.tally_is.dropped ∙ sym drops;
+              dequeues = ap (λ n. n + 1) sound.tally_is.dequeues ∙ sym (dequeues_in-dequeue journal now plan.burst);
+            };
+            account = omega (arith, lengths, joined, parcels_count, all, seen_count, total, waited, waits, sends, drops, arrivals);
+            few = sound.few;
+            short = subst IsQueue (sym (ap (λ (s : PortState T). s.queue) next_is)) (within-rest (parcels made.sends) made.state.queue port.queue keeps.order sound.short);
+            time = omega (arith, later, time, next_time, sends, all, seen_count, in_time);
+          }
+
+      -- what a contract sees of the run then
+      pub HasDequeued-made : (next : PortState T) (after : PacerState) (sent : ℕ) (pushed : List Entry) (out : List (Departure T)) → IsSound packet plan port pacer journal tally → DequeueLaws packet now plan.burst port → next ≡ made.state → sent ≡ length made.sends → after ≡ record pacer { went = nat_lt 0 sent } → pushed ≡ journal_after → out ≡ made.sends → HasDequeued packet now (record { plan = plan; journal = journal; pacer = pacer; waiting = port.queue }) (record { plan = plan; journal = pushed; pacer = after; waiting = next.queue }) out
+      HasDequeued-made next after sent pushed out sound laws next_is count after_is pushed_is out_is =
+          let told : after.went ≡ nat_lt 0 (length made.sends) = ap (λ (p : PacerState). p.went) after_is ∙ ap (nat_lt 0) count in
+          let went : nat_lt 0 sent ≡ (schedule_of plan.shaper journal_after).went = ap (nat_lt 0) count ∙ sym (schedule-went sound laws) in
+          let seen : List Entry → PacerState → RunState T = λ js p. record { plan = plan; journal = js; pacer = p; waiting = next.queue } in
+          record {
+            state = ap (λ js. seen js after) pushed_is ∙ ap (seen journal_after) after_is ∙ ap (λ (b : Bool). seen journal_after (record pacer { went = b })) went;
+            sends = ap (λ js. (schedule_of plan.shaper js).sends) pushed_is ∙ schedule-sends sound laws ∙ ap (λ ds. before.sends ++ map (seen_send packet) ds) (sym out_is);
+            order = ap (λ ds. parcels ds ++ next.queue) out_is ∙ ap (λ (s : PortState T). parcels made.sends ++ s.queue) next_is ∙ laws.keeps.order;
+            moves_on = λ is. subst (λ (js : List Entry). now < (schedule_of plan.shaper js).port.time) (sym pushed_is) (past_now sound laws (sym told ∙ is));
+          }
+
+  -- after an arrival that joined the queue, or was turned away
+  module _ (plan : Plan) (port next : PortState T) (pacer : PacerState) (journal : List Entry) (tally : Tally) (t : T) where
+    abbrev arrivals_after : List Entry
+    arrivals_after = journal ++ Arrive (packet t) ∷ []
+
+    abbrev was : Schedule
+    was = schedule_of plan.shaper journal
+
+    waited : IsSound packet plan port pacer journal tally → length port.queue ≡ length was.port.queue
+    waited sound = sym (length-map port.queue packet) ∙ ap (λ (s : PortState Pkt). length s.queue) sound.port_is
+
+    pub IsSound-joined : IsSound packet plan port pacer journal tally → tally.arrived < MAX_RECORDS → (packet t).wire ≤ MTU → length port.queue < QUEUE_SIZE → next ≡ after_arrival t port → IsSound packet plan next pacer arrivals_after (record tally { arrived = tally.arrived + 1 })
+    IsSound-joined sound few short_one room is =
+        let fits : length was.port.queue < QUEUE_SIZE = subst (λ n. n < QUEUE_SIZE) (waited sound) room in
+        let step : schedule_of plan.shaper arrivals_after ≡ record was { port = after_arrival (packet t) was.port } = schedule_of-push plan.shaper journal (Arrive (packet t)) ∙ if-lt (length was.port.queue) QUEUE_SIZE _ _ fits in
+        let more = length-append (arrivals_of journal) (packet t ∷ []) in
+        let arrivals = ap length (arrivals_of-arrive journal (packet t)) in
+        let queue = length-append was.port.queue (packet t ∷ []) in
+        let sends : length (schedule_of plan.shaper arrivals_after).sends ≡ length was.sends = ap (λ (s : Schedule). length s.sends) step in
+        let waits : length (schedule_of plan.shaper arrivals_after).port.queue ≡ length (was.port.queue ++ packet t ∷ []) = ap (λ (s : Schedule). length s.port.queue) step in
+        let drops : length (schedule_of plan.shaper arrivals_after).drops ≡ length was.drops = ap (λ (s : Schedule). length s.drops) step in
+        let time = sound.time in
+        let total = sound.account in
+        let same_time : next.time ≡ port.time = ap (λ (s : PortState T). s.time) is in
+        let IsQueue : List T → Type 0 = AreWithin packet MTU in
+        let seen_is : seen_port packet (after_arrival t port) ≡ after_arrival (packet t) (seen_port packet port) = ap (λ ps. record (seen_port packet port) { queue = ps }) (map-append packet port.queue (t ∷ [])) in
+        record {
+          plan_is = sound.plan_is;
+          port_is = ap (seen_port packet) is ∙ seen_is ∙ ap (after_arrival (packet t)) sound.port_is ∙ sym (ap (λ (s : Schedule). s.port) step);
+          went_is = sound.went_is ∙ sym (ap (λ (s : Schedule). s.went) step);
+          quantum_is = sound.quantum_is;
+          tally_is = record {
+            arrived = ap (λ n. n + 1) sound.tally_is.arrived ∙ sym more ∙ sym arrivals;
+            dropped = sound.tally_is.dropped ∙ sym drops;
+            dequeues = sound.tally_is.dequeues ∙ sym (dequeues_in-arrive journal (packet t));
+          };
+          account = omega (arith, more, arrivals, queue, sends, waits, drops, total);
+          few = omega (arith, few);
+          short = subst IsQueue (sym (ap (λ (s : PortState T). s.queue) is)) (All-push (λ (x : T). (packet x).wire ≤ MTU) port.queue t sound.short short_one);
+          time = omega (arith, time, same_time, sends);
+        }
+
+    pub IsSound-turned_away : IsSound packet plan port pacer journal tally → tally.arrived < MAX_RECORDS → QUEUE_SIZE ≤ length port.queue → next ≡ port → IsSound packet plan next pacer arrivals_after (record { arrived = tally.arrived + 1; dropped = tally.dropped + 1; dequeues = tally.dequeues })
+    IsSound-turned_away sound few full is =
+        let full_there : QUEUE_SIZE ≤ length was.port.queue = subst (λ n. QUEUE_SIZE ≤ n) (waited sound) full in
+        let step : schedule_of plan.shaper arrivals_after ≡ record was { drops = was.drops ++ packet t ∷ [] } = schedule_of-push plan.shaper journal (Arrive (packet t)) ∙ if-ge (length was.port.queue) QUEUE_SIZE _ _ full_there in
+        let more = length-append (arrivals_of journal) (packet t ∷ []) in
+        let arrivals = ap length (arrivals_of-arrive journal (packet t)) in
+        let dropped = length-append was.drops (packet t ∷ []) in
+        let sends : length (schedule_of plan.shaper arrivals_after).sends ≡ length was.sends = ap (λ (s : Schedule). length s.sends) step in
+        let waits : length (schedule_of plan.shaper arrivals_after).port.queue ≡ length was.port.queue = ap (λ (s : Schedule). length s.port.queue) step in
+        let drops : length (schedule_of plan.shaper arrivals_after).drops ≡ length (was.drops ++ packet t ∷ []) = ap (λ (s : Schedule). length s.drops) step in
+        let time = sound.time in
+        let total = sound.account in
+        let same_time : next.time ≡ port.time = ap (λ (s : PortState T). s.time) is in
+        let IsQueue : List T → Type 0 = AreWithin packet MTU in
+        record {
+          plan_is = sound.plan_is;
+          port_is = ap (seen_port packet) is ∙ sound.port_is ∙ sym (ap (λ (s : Schedule). s.port) step);
+          went_is = sound.went_is ∙ sym (ap (λ (s : Schedule). s.went) step);
+          quantum_is = sound.quantum_is;
+          tally_is = record {
+            arrived = ap (λ n. n + 1) sound.tally_is.arrived ∙ sym more ∙ sym arrivals;
+            dropped = ap (λ n. n + 1) sound.tally_is.dropped ∙ sym dropped ∙ sym drops;
+            dequeues = sound.tally_is.dequeues ∙ sym (dequeues_in-arrive journal (packet t));
+          };
+          account = omega (arith, more, arrivals, dropped, sends, waits, drops, total);
+          few = omega (arith, few);
+          short = subst IsQueue (sym (ap (λ (s : PortState T). s.queue) is)) sound.short;
+          time = omega (arith, time, same_time, sends);
+        }
+
+-- a queue that turned a packet away is full
+pub is_full : (waits : ℕ) → (waits < QUEUE_SIZE → false ≡ true) → QUEUE_SIZE ≤ waits
+is_full waits refused = ⊎_elim (λ (below : waits < QUEUE_SIZE). absurd (false≢true (refused below))) (λ (full : QUEUE_SIZE ≤ waits). full) (cases_lt waits QUEUE_SIZE)
+
+-- what a contract sees of a run after an arrival
+abbrev seen_run : {T : Type 0} → Plan → List Entry → PacerState → List T → RunState T
+seen_run plan journal pacer waiting = record { plan = plan; journal = journal; pacer = pacer; waiting = waiting }
+
+pub arrived-view : {T : Type 0} (plan : Plan) (journal pushed : List Entry) (pacer : PacerState) (entry : Entry) (waiting : List T) → pushed ≡ journal ++ entry ∷ [] → pacer.went ≡ (schedule_of plan.shaper pushed).went → seen_run plan pushed pacer waiting ≡ seen_run plan (journal ++ entry ∷ []) (record pacer { went = (schedule_of plan.shaper (journal ++ entry ∷ [])).went }) waiting
+arrived-view {T} plan journal pushed pacer entry waiting is went =
+    ap (λ (b : Bool). seen_run plan pushed (record pacer { went = b }) waiting) went
+    ∙ ap (λ js. seen_run plan js (record pacer { went = (schedule_of plan.shaper js).went }) waiting) is

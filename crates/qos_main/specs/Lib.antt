@@ -1,16 +1,6 @@
-pub mod Words
-pub mod Bodies
-pub mod Kept
-pub mod Fate
-pub mod Input
-pub mod Taken
+pub mod Plan
 pub mod Pacer
 pub mod Schedule
 pub mod Paced
 pub mod PortRun
-pub mod Run
-pub mod Drive
-pub mod Report
-pub mod Output
-pub mod Top
 pub mod Laws

@@ -44,13 +44,13 @@ module _ (plan : Plan) where
       let there = record c { journal = c.journal ++ Arrive p ∷ [] } in
       if nat_le (schedule_in there).port.time there.clock then after_dequeue there.clock there else there
 
-  abbrev pub arrived : ℕ → Pkt → Course → Course
-  arrived b p c = after_join p (advance b c)
+  abbrev pub after_arrival : ℕ → Pkt → Course → Course
+  after_arrival b p c = after_join p (advance b c)
 
   -- the course of these arrivals, each with its byte time
   unfoldable pub open_course : (Pkt → ℕ) → List Pkt → Course
   open_course byte_time arrivals =
-      fold (λ c p. arrived (byte_time p) p c) (record { journal = []; clock = 0 }) arrivals
+      fold (λ c p. after_arrival (byte_time p) p c) (record { journal = []; clock = 0 }) arrivals
 
   -- the same, and then the drain
   abbrev pub paced_course : (Pkt → ℕ) → List Pkt → Course

@@ -1,66 +1,76 @@
 -- What a contract sees of the run of a port, and what the run keeps true.
-use Rattle.std.specs.Prelude.{◌≡◌, ◌<◌, ◌≤◌, ◌^◌, ℕ, ◌+◌, ◌*◌, Bool, true, List, [], ◌++◌, length, map}
-use Rattle.std.specs.List.Sorted.{IsPermutation}
+use Rattle.std.specs.Prelude.{◌≡◌, ◌<◌, ◌≤◌, ◌^◌, ℕ, ◌+◌, ◌*◌, true, List, [], ◌∷◌, ◌++◌, length, map}
 use Rattle.qos_base.specs.declared.packet.Pkt.{Pkt}
 use Rattle.qos_base.specs.declared.packet.Departure.{Departure}
-use Rattle.port_sched.specs.PortState.{Shaper, PortState}
+use Rattle.port_sched.specs.declared.plain.TheConstants.{MTU, OVERHEAD}
+use Rattle.port_sched.specs.PortState.{PortState}
+use Rattle.port_sched.specs.Laws.{AreWithin, parcels, seen_port, seen_send}
+use Rattle.qos_main.specs.declared.limits.TheConstants.{MAX_RECORDS}
+use Rattle.qos_main.specs.declared.plan.Plan.{Plan}
+use Rattle.qos_main.specs.declared.tally.Tally.{Tally}
 use Rattle.qos_main.specs.declared.entry.Entry.{Entry}
-use Rattle.qos_main.specs.declared.outcome.PortOutcome.{PortOutcome}
+use Rattle.qos_main.specs.declared.entry.Entry.TheVariants.{Arrive, Dequeue}
+use Rattle.qos_main.specs.Plan.{IsPlan}
 use Rattle.qos_main.specs.Pacer.{PacerState, new_pacer}
 use Rattle.qos_main.specs.Schedule.{Schedule, schedule_of, arrivals_of, dequeues_in}
-use Rattle.qos_main.specs.Paced.{Plan, Course}
+use Rattle.qos_main.specs.Paced.{Course}
 
-pub record RunState : Type 0 where
+pub record RunState (T : Type 0) : Type 0 where
   pub plan : Plan
   pub journal : List Entry
   pub pacer : PacerState
+  -- the parcels that wait, the oldest first
+  pub waiting : List T
 
--- the plan of a port with this bucket
-abbrev pub plan_of : Shaper → Plan
-plan_of shaper = record { shaper = shaper; quantum = 65536; burst = 32 }
+abbrev pub new_run : {T : Type 0} → Plan → RunState T
+new_run plan = record { plan = plan; journal = []; pacer = new_pacer plan.quantum; waiting = [] }
 
-abbrev pub new_run : Shaper → RunState
-new_run shaper = record { plan = plan_of shaper; journal = []; pacer = new_pacer 65536 }
+-- the numbers of a port are those of the schedule of its journal
+pub record IsTally (plan : Plan) (journal : List Entry) (tally : Tally) : Type 0 where
+  pub arrived : tally.arrived ≡ length (arrivals_of journal)
+  pub dropped : tally.dropped ≡ length (schedule_of plan.shaper journal).drops
+  pub dequeues : tally.dequeues ≡ dequeues_in journal
 
-abbrev pub course_of : RunState → Course
-course_of r = record { journal = r.journal; clock = r.pacer.clock }
+-- The scheduler stands where the schedule of the journal stands, and nothing can wrap.
+pub record IsSound {T : Type 0} (packet : T → Pkt) (plan : Plan) (port : PortState T) (pacer : PacerState) (journal : List Entry) (tally : Tally) : Type 0 where
+  pub plan_is : IsPlan plan
+  pub port_is : seen_port packet port ≡ (schedule_of plan.shaper journal).port
+  pub went_is : pacer.went ≡ (schedule_of plan.shaper journal).went
+  pub quantum_is : pacer.quantum ≡ plan.quantum
+  pub tally_is : IsTally plan journal tally
+  -- each packet that arrived was sent, waits or was turned away
+  pub account : length (schedule_of plan.shaper journal).sends + length (schedule_of plan.shaper journal).port.queue + length (schedule_of plan.shaper journal).drops ≡ length (arrivals_of journal)
+  pub few : tally.arrived ≤ MAX_RECORDS
+  pub short : AreWithin packet MTU port.queue
+  pub time : port.time ≤ 2 ^ 57 + (MTU + OVERHEAD) * length (schedule_of plan.shaper journal).sends
 
--- the parcels that were sent
-abbrev pub parcels : List (Departure Pkt) → List Pkt
-parcels sends = map (λ d. d.parcel) sends
+module _ {T : Type 0} where
+  abbrev pub course_of : RunState T → Course
+  course_of r = record { journal = r.journal; clock = r.pacer.clock }
 
--- The scheduler stands where the schedule of the journal stands, and each packet that arrived was sent, waits or was turned away, once.
-pub record IsSound (port : PortState Pkt) (went : Bool) (journal : List Entry) (sends : List (Departure Pkt)) (arrived dropped dequeues : ℕ) : Type 0 where
-  pub port_is : port ≡ (schedule_of port.shaper journal).port
-  pub sends_are : sends ≡ (schedule_of port.shaper journal).sends
-  pub went_is : went ≡ (schedule_of port.shaper journal).went
-  pub dropped_is : dropped ≡ length (schedule_of port.shaper journal).drops
-  pub arrived_is : arrived ≡ length (arrivals_of journal)
-  pub dequeues_is : dequeues ≡ dequeues_in journal
-  pub account : IsPermutation (arrivals_of journal) ((parcels sends ++ port.queue) ++ (schedule_of port.shaper journal).drops)
-  pub few : arrived ≤ 2000000000
-  pub time : port.time ≤ 2 ^ 57 + 1546 * length sends
+  -- the schedule of its journal so far
+  abbrev pub schedule : RunState T → Schedule
+  schedule r = schedule_of r.plan.shaper r.journal
 
--- the schedule of its journal so far
-abbrev pub schedule : RunState → Schedule
-schedule r = schedule_of r.plan.shaper r.journal
+  -- where a packet waits after a dequeue that sent something, port time is past the clock: an advance moves on with each dequeue
+  abbrev pub IsReady : RunState T → Type 0
+  IsReady r = 0 < length (schedule r).port.queue → (schedule r).went ≡ true → r.pacer.clock < (schedule r).port.time
 
--- where a packet waits after a dequeue that sent something, port time is past the clock: an advance moves on with each dequeue
-abbrev pub IsReady : RunState → Type 0
-IsReady r = 0 < length (schedule r).port.queue → (schedule r).went ≡ true → r.pacer.clock < (schedule r).port.time
+  -- between two calls: the clock has come to the aim, and an advance may begin
+  pub record IsBetween (r : RunState T) : Type 0 where
+    pub there : r.pacer.aim ≤ r.pacer.clock
+    pub clock : r.pacer.clock ≤ 2 ^ 57
+    pub ready : IsReady r
 
--- between two calls: the clock has come to the aim, and an advance may begin
-pub record IsBetween (r : RunState) : Type 0 where
-  pub there : r.pacer.aim ≤ r.pacer.clock
-  pub clock : r.pacer.clock ≤ 2 ^ 57
-  pub ready : IsReady r
+  -- the run after one more entry, with these parcels waiting
+  abbrev pub after_entry_of : RunState T → Entry → List T → RunState T
+  after_entry_of r entry waiting =
+      let journal = r.journal ++ entry ∷ [] in
+      record r { journal = journal; pacer = record r.pacer { went = (schedule_of r.plan.shaper journal).went }; waiting = waiting }
 
--- what the run of a port with this bucket comes to: the sends and the numbers of the schedule of its journal
-pub record IsOutcomeOf (shaper : Shaper) (outcome : PortOutcome) : Type 0 where
-  pub sends : outcome.sends.items ≡ (schedule_of shaper outcome.journal.items).sends
-  pub arrived : outcome.arrived ≡ length (arrivals_of outcome.journal.items)
-  pub left : outcome.left ≡ length (schedule_of shaper outcome.journal.items).port.queue
-  pub dropped : outcome.dropped ≡ length (schedule_of shaper outcome.journal.items).drops
-  pub dequeues : outcome.dequeues ≡ dequeues_in outcome.journal.items
-  pub time : outcome.time ≡ (schedule_of shaper outcome.journal.items).port.time
-  pub account : IsPermutation (arrivals_of outcome.journal.items) ((parcels (schedule_of shaper outcome.journal.items).sends ++ (schedule_of shaper outcome.journal.items).port.queue) ++ (schedule_of shaper outcome.journal.items).drops)
+  -- a dequeue at a moment was made, and these departures are its sends
+  pub record HasDequeued (packet : T → Pkt) (now : ℕ) (before after : RunState T) (out : List (Departure T)) : Type 0 where
+    pub state : after ≡ after_entry_of before (Dequeue now before.plan.burst) after.waiting
+    pub sends : (schedule after).sends ≡ (schedule before).sends ++ map (seen_send packet) out
+    pub order : parcels out ++ after.waiting ≡ before.waiting
+    pub moves_on : after.pacer.went ≡ true → now < (schedule after).port.time

@@ -1,11 +1,16 @@
 //! Laws of the definitions. These functions do nothing; each has a law as its contract.
-ghost use Rattle.qos_main.specs.Paced.{Plan};
+ghost use Rattle.qos_main.specs.declared.plan.Plan.{Plan};
 ghost use Rattle.qos_main.specs.Laws.{AdvancesMoveOn, OpenJournalsGrow};
+
+use port_sched::laws::dequeues_keep;
+use qos_base::Pkt;
 
 /// Each repetition of an advance moves the clock on, and an advance ends at its aim.
 pub fn advances_move_on()
     ensures { (plan : Plan) → AdvancesMoveOn plan }
-{}
+{
+    dequeues_keep::<Pkt>();
+}
 
 /// The open journal of a list of arrivals is a first part of the open journal of a longer one.
 pub fn open_journals_grow()

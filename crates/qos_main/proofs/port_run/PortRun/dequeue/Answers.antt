@@ -1,53 +1,38 @@
 use Rattle.std.proofs.Common.{◌≡◌, ◌+◌, List, ◌++◌, [], ◌∷◌, sym, ap, ◌∙◌, subst, arith}
-use Rattle.qos_base.specs.declared.packet.Pkt.{Pkt}
+use Rattle.qos_base.specs.declared.packet.Departure.{Departure}
 use Rattle.port_sched.specs.Dequeue.{dequeue}
 use Rattle.qos_main.specs.declared.entry.Entry.{Entry}
 use Rattle.qos_main.specs.declared.entry.Entry.TheVariants.{Dequeue}
-use Rattle.qos_main.specs.Pacer.{PacerState}
-use Rattle.qos_main.specs.PortRun.{IsSound, parcels}
+use Rattle.qos_main.specs.PortRun.{IsSound}
 use Rattle.qos_main.proofs.Schedules.{dequeues_in-le}
-use Rattle.qos_main.proofs.Runs.{sends-few, IsSound-dequeued, run_after, past_now}
+use Rattle.qos_main.proofs.Runs.{time-fits, IsSound-dequeued, HasDequeued-made}
 use Rattle.qos_main.proofs.port_run.PortRun.dequeue.Goals as goal
 
 pub dequeue-sent-requires-clause-time : goal.dequeue-sent-requires-clause-time
-dequeue-sent-requires-clause-time c =
-    let few = sends-few _ _ _ _ _ _ _ c.self.invariant in
-    let arrived = c.self.invariant.few in
-    let time = c.self.invariant.time in
-    omega arith
+dequeue-sent-requires-clause-time g c = time-fits g.T.Parcel.packet _ _ _ _ _ c.self.invariant
 
 pub overflow_add-self : goal.overflow_add-self
-overflow_add-self c =
+overflow_add-self g c =
     let journal = c.self.inside.journal in
-    omega (arith, c.self.invariant.dequeues_is, dequeues_in-le journal.items, journal.ok.0, journal.ok.1, journal.small)
+    omega (arith, c.self.invariant.tally_is.dequeues, dequeues_in-le journal.items, journal.ok.0, journal.ok.1, journal.small)
 
--- the run after the dequeue, before its journal is named as the code has it
-after : (c : goal.After-self-1) → IsSound c.dequeue-sent.new.self c.went.new.self.went (c.self.inside.journal.items ++ Dequeue c.args.now 32 ∷ []) c.dequeue-sent.new.out.items c.self.inside.arrived c.self.inside.dropped (c.self.inside.dequeues + 1)
-after c =
-    let i = c.self.inside in
-    let held : c.reserve-2.new.self.items ≡ i.sends.items = c.in_ok-reserve-2.ensures.items in
-    let d = c.dequeue-sent.ensures in
-    IsSound-dequeued i.sched c.dequeue-sent.new.self i.pacer.went c.went.new.self.went i.journal.items i.sends.items c.dequeue-sent.new.out.items i.arrived i.dropped i.dequeues c.args.now c.dequeue-sent.result
-    c.self.invariant c.requires d.state (d.sends ∙ ap (λ ds. ds ++ (dequeue (λ (p : Pkt). p) c.args.now 32 i.sched).sends) held) d.count (d.order ∙ ap (λ ds. parcels ds ++ i.sched.queue) held) d.shaper d.no_later (ap (λ (p : PacerState). p.went) c.went.ensures)
-
-pushed : (c : goal.After-self-1) → c.push_reserved.new.self.items ≡ c.self.inside.journal.items ++ Dequeue c.args.now 32 ∷ []
-pushed c = c.push_reserved.ensures.items ∙ ap (λ js. js ++ Dequeue c.args.now 32 ∷ []) c.in_ok-reserve.ensures.items
+pushed : (g : _) (c : goal.After-self-1 g) → c.push_reserved.new.self.items ≡ c.self.inside.journal.items ++ Dequeue c.args.now c.self.inside.plan.burst ∷ []
+pushed g c = c.push_reserved.ensures.items ∙ ap (λ js. js ++ Dequeue c.args.now c.self.inside.plan.burst ∷ []) c.in_ok-reserve.ensures.items
 
 pub invariant_of-self-2 : goal.invariant_of-self-2
-invariant_of-self-2 c =
-    subst (λ (js : List Entry). IsSound c.dequeue-sent.new.self c.went.new.self.went js c.dequeue-sent.new.out.items c.self.inside.arrived c.self.inside.dropped (c.self.inside.dequeues + 1)) (sym (pushed c)) (after c)
-
-pub returns-clause-ok : goal.returns-clause-ok
-returns-clause-ok c =
+invariant_of-self-2 g c =
     let i = c.self.inside in
+    let laws = c.dequeues_keep.ensures c.args.now i.plan.burst i.sched in
+    let d = c.dequeue-sent.ensures in
+    let IsAt : List Entry → Type 0 = λ js. IsSound g.T.Parcel.packet i.plan c.dequeue-sent.new.self c.went.new.self js (record i.tally { dequeues = i.tally.dequeues + 1 }) in
+    subst IsAt (sym (pushed g c))
+    (IsSound-dequeued g.T.Parcel.packet i.plan i.sched i.pacer i.journal.items i.tally c.args.now _ _ c.dequeue-sent.result c.self.invariant laws c.requires.now d.state d.count c.went.ensures)
+
+pub returns-clause-dequeued : goal.returns-clause-dequeued
+returns-clause-dequeued g c =
+    let i = c.self.inside in
+    let laws = c.dequeues_keep.ensures c.args.now i.plan.burst i.sched in
+    let d = c.dequeue-sent.ensures in
+    let sends = d.sends ∙ ap (λ (ds : List (Departure g.row.T.Denot)). ds ++ (dequeue g.T.Parcel.packet c.args.now i.plan.burst i.sched).sends) c.requires.empty in
     rw (← c.self.view_is)
-    (run_after c.dequeue-sent.new.self i.sched i.journal.items c.push_reserved.new.self.items i.pacer c.went.new.self _ (Dequeue c.args.now 32) c.dequeue-sent.ensures.shaper (pushed c) c.went.ensures
-    (sym (ap (λ (p : PacerState). p.went) c.went.ensures) ∙ (after c).went_is))
-
-pub returns-clause-moves_on : goal.returns-clause-moves_on
-returns-clause-moves_on c =
-    let i = c.self.inside in
-    λ told.
-    rw (← c.self.view_is, pushed c)
-    (past_now c.dequeue-sent.new.self i.sched i.journal.items (Dequeue c.args.now 32) c.args.now c.dequeue-sent.result c.went.new.self.went (after c).port_is c.dequeue-sent.ensures.shaper c.dequeue-sent.ensures.no_sooner
-    (ap (λ (p : PacerState). p.went) c.went.ensures) told)
+    (HasDequeued-made g.T.Parcel.packet i.plan i.sched i.pacer i.journal.items i.tally c.args.now _ _ c.dequeue-sent.result _ _ c.self.invariant laws d.state d.count c.went.ensures (pushed g c) sends)
