@@ -1,4 +1,6 @@
 pub mod Fault
 pub mod Bytes
+pub mod Kept
 pub mod Memory
 pub mod Chain
+pub mod Shelves

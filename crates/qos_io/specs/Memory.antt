@@ -4,6 +4,7 @@ use Rattle.std.specs.Ordering.{nat_cmp}
 use Rattle.std.specs.Coded.{Coded, coded×, coded_ℕ, coded_list, code_by}
 use Rattle.std.specs.Cmp.Lexicographic.{slice_cmp}
 use Rattle.std.specs.FinMap as map
+use Rattle.qos_io.specs.Kept.{Closing, closing_code}
 
 -- one more; at the last number of 64 bits a count stays
 abbrev pub one_more : ℕ → ℕ
@@ -55,11 +56,24 @@ Files = map.FinMap (slice_cmp nat_cmp) (List ℕ)
 abbrev pub files_code : Coded Files
 files_code = map.code (coded_list coded_ℕ) (coded_list coded_ℕ)
 
--- a shelf: its files, and how many of its calls failed
-pub record ShelfState : Type 0 where
+-- a shelf that never fails: its files, and what was closed, the oldest first
+pub record WholeShelfState : Type 0 where
   pub files : Files
-  pub faults : ℕ
+  pub closed : List Closing
 
 -- it is stored as the pair of the two
+abbrev pub whole_shelf_code : Coded WholeShelfState
+whole_shelf_code =
+    code_by (Files × List Closing) (coded× files_code (coded_list closing_code)) (λ s. (s.files, s.closed)) (λ p. record { files = p.0; closed = p.1 }) (λ _. refl)
+
+-- a shelf: its files, what was closed, the oldest first, and how many of its calls failed
+pub record ShelfState : Type 0 where
+  pub files : Files
+  pub closed : List Closing
+  pub faults : ℕ
+
+-- it is stored as the tuple of the three
 abbrev pub shelf_state_code : Coded ShelfState
-shelf_state_code = code_by (Files × ℕ) (coded× files_code coded_ℕ) (λ s. (s.files, s.faults)) (λ p. record { files = p.0; faults = p.1 }) (λ _. refl)
+shelf_state_code =
+    code_by (Files × (List Closing × ℕ)) (coded× files_code (coded× (coded_list closing_code) coded_ℕ)) (λ s. (s.files, (s.closed, s.faults)))
+    (λ p. record { files = p.0; closed = p.1.0; faults = p.1.1 }) (λ _. refl)

@@ -1,6 +1,6 @@
 //! Files by their names. The newest file of a name counts, so that to add one takes no memory where
 //! its place was made before.
-ghost use Rattle.std.specs.Prelude.{◌≡◌, ◌≢◌, ℕ, List, Some, IfOk};
+ghost use Rattle.std.specs.Prelude.{◌≡◌, ◌≢◌, ◌++◌, ℕ, [], ◌∷◌, List, Some, IfOk};
 ghost use Rattle.std.specs.Option.{option_copied};
 ghost use Rattle.std.specs.FinMap as map;
 
@@ -13,6 +13,7 @@ use std::mem;
 struct Node {
     name: String,
     bytes: Vec<u8>,
+    closed: bool, // a closing made it
     older: Chain,
 }
 
@@ -31,6 +32,7 @@ impl Drop for Chain {
                     let Node {
                         name: _,
                         bytes: _,
+                        closed: _,
                         older,
                     } = Box::into_inner(node);
                     self = older;
@@ -64,6 +66,7 @@ impl Place {
         let node = Node {
             name,
             bytes: Vec::new(alloc),
+            closed: false,
             older: Chain::End,
         };
         Ok(Place {
@@ -72,48 +75,64 @@ impl Place {
     }
 }
 
-/// What each name's file holds.
+/// What each name's file holds, and what was closed.
 #[derive(Drop)]
 pub(crate) struct Files {
     newest: Chain,
 }
 
 impl Model for Files {
-    ghost use Rattle.qos_io.specs.Memory.{Files, files_code};
+    ghost use Rattle.qos_io.specs.Memory.{WholeShelfState, whole_shelf_code};
 
-    ghost Value = { Files };
+    ghost Value = { WholeShelfState };
 
-    ghost coded = { files_code };
+    ghost coded = { whole_shelf_code };
 
     ghost use Rattle.std.specs.FinMap.{from_entries};
-    ghost use Rattle.qos_io.specs.Chain.{entries_of};
+    ghost use Rattle.qos_io.specs.Chain.{entries_of, closings_of};
 
-    ghost view = { λ a. from_entries (entries_of a.newest) };
+    ghost view = { λ a. record { files = from_entries (entries_of a.newest); closed = closings_of a.newest } };
 }
 
 impl Files {
     /// No file.
     pub(crate) fn new() -> Files
-        ensures { result ≡ map.empty }
+        ensures { result ≡ record { files = map.empty; closed = [] } }
     {
         Files { newest: Chain::End }
     }
 
     /// The file of the place's name now holds these bytes. It takes no memory.
     pub(crate) fn put(&mut self, place: Place, bytes: Vec<u8>)
-        ensures put { self.new ≡ map.insert self.old place bytes.items }
-        ensures held { map.get self.new place ≡ Some bytes.items }
-        ensures others { (n : List ℕ) → n ≢ place → map.get self.new n ≡ map.get self.old n }
+        ensures put { self.new.files ≡ map.insert self.old.files place bytes.items }
+        ensures held { map.get self.new.files place ≡ Some bytes.items }
+        ensures others { (n : List ℕ) → n ≢ place → map.get self.new.files n ≡ map.get self.old.files n }
+        ensures closed { self.new.closed ≡ self.old.closed }
     {
         let Place { mut node } = place;
         node.bytes = bytes;
+        node.closed = false;
+        node.older = mem::replace(&mut self.newest, Chain::End);
+        self.newest = Chain::More(node);
+    }
+
+    /// The same for a sink of these bytes that was closed. It takes no memory.
+    pub(crate) fn close(&mut self, place: Place, bytes: Vec<u8>)
+        ensures put { self.new.files ≡ map.insert self.old.files place bytes.items }
+        ensures held { map.get self.new.files place ≡ Some bytes.items }
+        ensures others { (n : List ℕ) → n ≢ place → map.get self.new.files n ≡ map.get self.old.files n }
+        ensures closed { self.new.closed ≡ self.old.closed ++ (record { name = place; held = bytes.items } ∷ []) }
+    {
+        let Place { mut node } = place;
+        node.bytes = bytes;
+        node.closed = true;
         node.older = mem::replace(&mut self.newest, Chain::End);
         self.newest = Chain::More(node);
     }
 
     /// What the file of this name holds, or `None` where there is no such file.
     pub(crate) fn get(&self, name: &str) -> Option<&[u8]>
-        ensures { option_copied result ≡ map.get self.now name.now }
+        ensures { option_copied result ≡ map.get self.now.files name.now }
     {
         let mut at = &self.newest;
         while let Chain::More(node) = at {

@@ -1,5 +1,5 @@
 //! A shelf in memory whose failures are counted.
-ghost use Rattle.std.specs.Prelude.{◌≡◌, ◌≢◌, ◌↔◌, ℕ, List, [], OnOk, OnErr, IfOk, IsOk, IsSome, IsErrOf, IsOkUnless};
+ghost use Rattle.std.specs.Prelude.{◌≡◌, ◌≢◌, ◌↔◌, ◌++◌, ℕ, List, [], ◌∷◌, OnOk, OnErr, IfOk, IsOk, IsSome, IsErrOf, IsOkUnless};
 ghost use Rattle.std.specs.Option.{option_copied};
 ghost use Rattle.std.specs.FinMap as map;
 
@@ -9,7 +9,7 @@ use std::alloc::Global;
 use std::marker::Model;
 
 /// Files in memory. To open a name of no file fails and is counted. A contract sees it as the map from
-/// each name to what its file holds, and the count of faults.
+/// each name to what its file holds, the list of what was closed, and the count of faults.
 #[derive(Drop)]
 pub struct MemShelf {
     shelf: WholeShelf,
@@ -24,13 +24,13 @@ impl Model for MemShelf {
 
     ghost coded = { shelf_state_code };
 
-    ghost view = { λ a. record { files = a.shelf; faults = a.faults } };
+    ghost view = { λ a. record { files = a.shelf.files; closed = a.shelf.closed; faults = a.faults } };
 }
 
 impl MemShelf {
     /// A shelf with no file.
     pub fn new(alloc: Global) -> MemShelf
-        ensures { result ≡ record { files = map.empty; faults = 0 } }
+        ensures { result ≡ record { files = map.empty; closed = []; faults = 0 } }
     {
         MemShelf {
             shelf: WholeShelf::new(alloc),
@@ -46,6 +46,7 @@ impl MemShelf {
         ensures held { OnOk result (map.get self.new.files name.now ≡ Some bytes.items) }
         ensures others { (n : List ℕ) → n ≢ name.now → map.get self.new.files n ≡ map.get self.old.files n }
         ensures refused { OnErr result (self.new.files ≡ self.old.files) }
+        ensures closed { self.new.closed ≡ self.old.closed }
         ensures faults { self.new.faults ≡ self.old.faults }
     {
         self.shelf.put_file(name, bytes)
@@ -74,6 +75,8 @@ impl Shelf for MemShelf {
 
     ghost file = { λ s n. map.get s.files n };
 
+    ghost closed = { λ s. s.closed };
+
     ghost faults = { λ s. s.faults };
 
     ghost IsSureToRead = { λ s n. IsSome (map.get s.files n) };
@@ -87,6 +90,7 @@ impl Shelf for MemShelf {
         ensures opened { IfOk result (λ source. map.get self.old.files name.now ≡ Some source.left) }
         ensures calls { IfOk result (λ source. source.calls ≡ no_calls []) }
         ensures unchanged { self.new.files ≡ self.old.files }
+        ensures closed { self.new.closed ≡ self.old.closed }
         ensures counted { IsErrOf result PutFault.Failed → self.new.faults ≡ one_more self.old.faults }
         ensures uncounted { ¬ (IsErrOf result PutFault.Failed) → self.new.faults ≡ self.old.faults }
         ensures failed { IsErrOf result PutFault.Failed → HasRisen self.old.faults self.new.faults }
@@ -107,6 +111,7 @@ impl Shelf for MemShelf {
         ensures created { OnOk result (map.get self.new.files name.now ≡ Some []) }
         ensures files { (n : List ℕ) → n ≢ name.now → map.get self.new.files n ≡ map.get self.old.files n }
         ensures refused { OnErr result (self.new.files ≡ self.old.files) }
+        ensures closed { self.new.closed ≡ self.old.closed }
         ensures faults { self.new.faults ≡ self.old.faults }
     {
         let sink = self.shelf.create_out(name)?;
@@ -120,6 +125,7 @@ impl Shelf for MemShelf {
         ensures put { (n : List ℕ) → out.name ≡ Some n → self.new.files ≡ map.insert self.old.files n out.held }
         ensures held { (n : List ℕ) → out.name ≡ Some n → map.get self.new.files n ≡ Some out.held }
         ensures files { (n : List ℕ) → out.name ≢ Some n → map.get self.new.files n ≡ map.get self.old.files n }
+        ensures closed { (n : List ℕ) → out.name ≡ Some n → self.new.closed ≡ self.old.closed ++ (record { name = n; held = out.held } ∷ []) }
         ensures stays { (n : List ℕ) → IsSome (map.get self.old.files n) → IsSome (map.get self.new.files n) }
         ensures faults { self.new.faults ≡ self.old.faults }
     {

@@ -1,13 +1,14 @@
 //! Files by their names.
-ghost use Rattle.std.specs.Prelude.{◌≡◌, ◌≢◌, ◌≤◌, ◌↔◌, ◌⊎◌, ℕ, [], List, Option, Some, IsSome, IfOk, OnOk, OnErr, IsErrOf};
+ghost use Rattle.std.specs.Prelude.{◌≡◌, ◌⊎◌, ◌++◌, ℕ, [], ◌∷◌, List, Option, None, Some, IsOk, IsSome, IfOk, OnOk, OnErr, IsErrOf};
 
 use crate::{PutFault, Sink, Source};
 
 /// A place that has files by their names.
 pub trait Shelf {
     ghost use Rattle.qos_io.specs.declared.sink.PutFault.TheVariants.{Failed};
-    ghost use Rattle.qos_io.specs.Fault.{HasRisen};
-    ghost use Rattle.qos_io.specs.Bytes.{HoldsPrefix};
+    ghost use Rattle.qos_io.specs.Fault.{Counts};
+    ghost use Rattle.qos_io.specs.Bytes.{HoldsPrefix, bytes_in};
+    ghost use Rattle.qos_io.specs.Kept.{Closing, OthersStay};
 
     type In: Source + Send;
 
@@ -28,16 +29,19 @@ pub trait Shelf {
     /// No creation under this name fails, and no put or closing of what it gives, but for want of memory.
     ghost IsSureToWrite: { Self → List ℕ → Type 0 };
 
-    /// A source that has the file's bytes left.
+    /// What sinks this shelf has closed, the oldest first, also where the closing failed. It means something where
+    /// the shelf tells it.
+    ghost closed: { Self → List Closing };
+
+    /// A source that has the file's bytes left. A name of no file fails, or opens as an empty file if it is sure.
     fn open_in(&mut self, name: &str) -> Result<Self::In, PutFault>
-        ensures bytes { Tells self.old → IfOk result (λ source. (held : List ℕ) → file self.old name.now ≡ Some held → Self.In.remaining source ≡ Some held) }
-        ensures files { (n : List ℕ) → file self.new n ≡ file self.old n }
-        ensures failed { IsErrOf result PutFault.Failed → HasRisen (faults self.old) (faults self.new) }
-        ensures sure { IsSureToRead self.old name.now → (IsErrOf result PutFault.Failed → ⊥) × IfOk result Self.In.IsSure }
-        ensures tells { Tells self.new ↔ Tells self.old }
-        ensures never_falls { faults self.old ≤ faults self.new }
-        ensures same_to_read { (n : List ℕ) → IsSureToRead self.new n ↔ IsSureToRead self.old n }
-        ensures same_to_write { (n : List ℕ) → IsSureToWrite self.new n ↔ IsSureToWrite self.old n };
+        ensures bytes { Tells self.old → IfOk result (λ source. Self.In.remaining source ≡ Some (bytes_in (file self.old name.now))) }
+        ensures absent { Tells self.old → file self.old name.now ≡ None → IsOk result → IsSureToRead self.old name.now }
+        ensures sure { IsSureToRead self.old name.now → IfOk result Self.In.IsSure }
+        ensures faults { Counts faults (λ s. IsSureToRead s name.now) self.old self.new (IsErrOf result PutFault.Failed) }
+        ensures uncounted { OnOk result (faults self.new ≡ faults self.old) }
+        ensures others { OthersStay Tells file IsSureToRead IsSureToWrite None self.old self.new }
+        ensures closed { Tells self.old → closed self.new ≡ closed self.old };
 
     /// An empty sink under that name. The file is then there, and empty; after a refusal it is as it was, or empty.
     fn create_out(&mut self, name: &str) -> Result<Self::Out, PutFault>
@@ -45,13 +49,11 @@ pub trait Shelf {
         ensures empty { Tells self.old → IfOk result (λ sink. Self.Out.contents sink ≡ Some []) }
         ensures created { Tells self.old → OnOk result (file self.new name.now ≡ Some []) }
         ensures not_created { Tells self.old → OnErr result ((file self.new name.now ≡ file self.old name.now) ⊎ (file self.new name.now ≡ Some [])) }
-        ensures files { (n : List ℕ) → n ≢ name.now → file self.new n ≡ file self.old n }
-        ensures failed { IsErrOf result PutFault.Failed → HasRisen (faults self.old) (faults self.new) }
-        ensures sure { IsSureToWrite self.old name.now → (IsErrOf result PutFault.Failed → ⊥) × IfOk result Self.Out.IsSure }
-        ensures tells { Tells self.new ↔ Tells self.old }
-        ensures never_falls { faults self.old ≤ faults self.new }
-        ensures same_to_read { (n : List ℕ) → n ≢ name.now → IsSureToRead self.new n ↔ IsSureToRead self.old n }
-        ensures same_to_write { (n : List ℕ) → IsSureToWrite self.new n ↔ IsSureToWrite self.old n };
+        ensures sure { IsSureToWrite self.old name.now → IfOk result Self.Out.IsSure }
+        ensures faults { Counts faults (λ s. IsSureToWrite s name.now) self.old self.new (IsErrOf result PutFault.Failed) }
+        ensures uncounted { OnOk result (faults self.new ≡ faults self.old) }
+        ensures others { OthersStay Tells file IsSureToRead IsSureToWrite (Some name.now) self.old self.new }
+        ensures closed { Tells self.old → closed self.new ≡ closed self.old };
 
     /// Ends the writing of a sink. The file of its name then holds what was put; after a refusal, a prefix of it.
     /// A sink may come from another shelf. Its name then gets a file here, and may so become sure to read.
@@ -59,12 +61,10 @@ pub trait Shelf {
         requires { IsSome (Self.Out.name out) }
         ensures held { Tells self.old → OnOk result ((n held : List ℕ) → Self.Out.name out ≡ Some n → Self.Out.contents out ≡ Some held → file self.new n ≡ Some held) }
         ensures refused { Tells self.old → OnErr result ((n held : List ℕ) → Self.Out.name out ≡ Some n → Self.Out.contents out ≡ Some held → HoldsPrefix held (file self.new n)) }
-        ensures files { (n : List ℕ) → Self.Out.name out ≢ Some n → file self.new n ≡ file self.old n }
-        ensures failed { IsErrOf result PutFault.Failed → HasRisen (faults self.old) (faults self.new) }
-        ensures sure { Self.Out.IsSure out → IsErrOf result PutFault.Failed → ⊥ }
-        ensures tells { Tells self.new ↔ Tells self.old }
-        ensures never_falls { faults self.old ≤ faults self.new }
-        ensures same_to_read { (n : List ℕ) → Self.Out.name out ≢ Some n → IsSureToRead self.new n ↔ IsSureToRead self.old n }
+        ensures faults { Counts faults (λ _. Self.Out.IsSure out) self.old self.new (IsErrOf result PutFault.Failed) }
+        ensures uncounted { OnOk result (faults self.new ≡ faults self.old) }
+        ensures others { OthersStay Tells file IsSureToRead IsSureToWrite (Self.Out.name out) self.old self.new }
         ensures stays_to_read { (n : List ℕ) → IsSureToRead self.old n → IsSureToRead self.new n }
-        ensures same_to_write { (n : List ℕ) → IsSureToWrite self.new n ↔ IsSureToWrite self.old n };
+        ensures closed { Tells self.old → (n held : List ℕ) → Self.Out.name out ≡ Some n → Self.Out.contents out ≡ Some held
+            → closed self.new ≡ closed self.old ++ (record { name = n; held = held } ∷ []) };
 }

@@ -1,5 +1,5 @@
 //! What the pipeline writes to.
-ghost use Rattle.std.specs.Prelude.{◌≡◌, ◌≤◌, ℕ, List, Option, length, take, IsErrOf, OnOk, OnErr};
+ghost use Rattle.std.specs.Prelude.{◌≡◌, ℕ, List, Option, IsErrOf, OnOk, OnErr};
 
 use qos_base::NoMemory;
 use std::alloc::AllocError;
@@ -38,8 +38,8 @@ impl From<AllocError> for PutFault {
 /// A stream of bytes to write to.
 pub trait Sink: Drop {
     ghost use Rattle.qos_io.specs.declared.sink.PutFault.TheVariants.{Failed};
-    ghost use Rattle.qos_io.specs.Fault.{HasRisen};
-    ghost use Rattle.qos_io.specs.Bytes.{held_after};
+    ghost use Rattle.qos_io.specs.Fault.{Counts};
+    ghost use Rattle.qos_io.specs.Bytes.{held_after, PutSome};
 
     /// The bytes that it holds, where the sink tells them.
     ghost contents: { Self → Option (List ℕ) };
@@ -56,9 +56,7 @@ pub trait Sink: Drop {
     /// Adds the bytes at the end. A refusal adds the first few of them, or none.
     fn put(&mut self, bytes: &[u8]) -> Result<(), PutFault>
         ensures added { OnOk result (contents self.new ≡ held_after bytes.now (contents self.old)) }
-        ensures refused { OnErr result ((n : ℕ) × (n ≤ length bytes.now) × (contents self.new ≡ held_after (take n bytes.now) (contents self.old))) }
-        ensures failed { IsErrOf result PutFault.Failed → HasRisen (faults self.old) (faults self.new) }
+        ensures refused { OnErr result (PutSome bytes.now (contents self.old) (contents self.new)) }
         ensures name { name self.new ≡ name self.old }
-        ensures never_falls { faults self.old ≤ faults self.new }
-        ensures sure { IsSure self.old → IsSure self.new × (IsErrOf result PutFault.Failed → ⊥) × (faults self.new ≡ faults self.old) };
+        ensures faults { Counts faults IsSure self.old self.new (IsErrOf result PutFault.Failed) };
 }

@@ -1,5 +1,5 @@
 //! What the pipeline reads from.
-ghost use Rattle.std.specs.Prelude.{◌≡◌, ◌≤◌, ◌<◌, ℕ, List, Option, length, IsOk, IfOk, IfSome, OnErr};
+ghost use Rattle.std.specs.Prelude.{◌≡◌, ◌≤◌, ◌<◌, ℕ, List, Option, length, IsErr, IfOk, IfSome, OnErr};
 
 /// A read failed, and the source has counted it. What is left to read stays.
 #[derive(Clone, Copy, Debug, PartialEq, Eq)]
@@ -7,7 +7,7 @@ pub struct Failed;
 
 /// A stream of bytes to read from.
 pub trait Source: Drop {
-    ghost use Rattle.qos_io.specs.Fault.{HasRisen};
+    ghost use Rattle.qos_io.specs.Fault.{Counts};
     ghost use Rattle.qos_io.specs.Bytes.{Moves, left_after};
 
     /// The bytes that are left to read, where the source tells them.
@@ -25,8 +25,6 @@ pub trait Source: Drop {
         ensures within { IfOk result (λ n. n ≤ length buf.old) }
         ensures bytes { IfOk result (λ n. IfSome (remaining self.old) (λ left. Moves n buf.old buf.new left)) }
         ensures left { IfOk result (λ n. remaining self.new ≡ left_after n (remaining self.old)) }
-        ensures failed { OnErr result (HasRisen (faults self.old) (faults self.new)) }
         ensures kept { OnErr result (remaining self.new ≡ remaining self.old) }
-        ensures never_falls { faults self.old ≤ faults self.new }
-        ensures sure { IsSure self.old → IsSure self.new × IsOk result × (faults self.new ≡ faults self.old) };
+        ensures faults { Counts faults IsSure self.old self.new (IsErr result) };
 }

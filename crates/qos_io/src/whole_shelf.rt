@@ -1,5 +1,5 @@
 //! A shelf in memory that never fails.
-ghost use Rattle.std.specs.Prelude.{◌≡◌, ◌≢◌, ℕ, List, [], OnOk, OnErr, IfOk, IsOk, IsSome, IsOkUnless, unwrap_or};
+ghost use Rattle.std.specs.Prelude.{◌≡◌, ◌≢◌, ◌++◌, ℕ, List, [], ◌∷◌, OnOk, OnErr, IfOk, IsOk, IsSome, IsOkUnless};
 ghost use Rattle.std.specs.Option.{option_copied};
 ghost use Rattle.std.specs.FinMap as map;
 
@@ -10,7 +10,7 @@ use std::alloc::Global;
 use std::marker::Model;
 
 /// Files in memory. Nothing fails, but for want of memory. A contract sees it as the map from each name
-/// to what its file holds.
+/// to what its file holds, and the list of what was closed.
 #[derive(Drop)]
 pub struct WholeShelf {
     files: Files,
@@ -18,11 +18,11 @@ pub struct WholeShelf {
 }
 
 impl Model for WholeShelf {
-    ghost use Rattle.qos_io.specs.Memory.{Files, files_code};
+    ghost use Rattle.qos_io.specs.Memory.{WholeShelfState, whole_shelf_code};
 
-    ghost Value = { Files };
+    ghost Value = { WholeShelfState };
 
-    ghost coded = { files_code };
+    ghost coded = { whole_shelf_code };
 
     ghost view = { λ a. a.files };
 }
@@ -30,7 +30,7 @@ impl Model for WholeShelf {
 impl WholeShelf {
     /// A shelf with no file.
     pub fn new(alloc: Global) -> WholeShelf
-        ensures { result ≡ map.empty }
+        ensures { result ≡ record { files = map.empty; closed = [] } }
     {
         WholeShelf {
             files: Files::new(),
@@ -41,9 +41,10 @@ impl WholeShelf {
     /// Makes a file of this name with these bytes, in place of any that was there. The bytes that were there stay
     /// in memory until the shelf goes. `NoMemory` where memory was refused for the name; nothing has changed then.
     pub fn put_file(&mut self, name: &str, bytes: Vec<u8>) -> Result<(), NoMemory>
-        ensures put { OnOk result (self.new ≡ map.insert self.old name.now bytes.items) }
-        ensures held { OnOk result (map.get self.new name.now ≡ Some bytes.items) }
-        ensures others { (n : List ℕ) → n ≢ name.now → map.get self.new n ≡ map.get self.old n }
+        ensures put { OnOk result (self.new.files ≡ map.insert self.old.files name.now bytes.items) }
+        ensures held { OnOk result (map.get self.new.files name.now ≡ Some bytes.items) }
+        ensures others { (n : List ℕ) → n ≢ name.now → map.get self.new.files n ≡ map.get self.old.files n }
+        ensures closed { self.new.closed ≡ self.old.closed }
         ensures refused { OnErr result (self.new ≡ self.old) }
     {
         let place = Place::new(self.alloc, name)?;
@@ -53,7 +54,7 @@ impl WholeShelf {
 
     /// What the file of this name holds, or `None` where there is no such file.
     pub fn file(&self, name: &str) -> Option<&[u8]>
-        ensures { option_copied result ≡ map.get self.now name.now }
+        ensures { option_copied result ≡ map.get self.now.files name.now }
     {
         self.files.get(name)
     }
@@ -61,6 +62,7 @@ impl WholeShelf {
 
 impl Shelf for WholeShelf {
     ghost use Rattle.std.specs.Prelude.{⊤};
+    ghost use Rattle.qos_io.specs.Bytes.{bytes_in};
     ghost use Rattle.std.specs.FinMap as map;
     ghost use Rattle.qos_io.specs.declared.sink.PutFault.TheVariants.{NoMemory};
 
@@ -70,7 +72,9 @@ impl Shelf for WholeShelf {
 
     ghost Tells = { λ _. ⊤ };
 
-    ghost file = { λ s n. map.get s n };
+    ghost file = { λ s n. map.get s.files n };
+
+    ghost closed = { λ s. s.closed };
 
     ghost faults = { λ _. 0 };
 
@@ -82,7 +86,7 @@ impl Shelf for WholeShelf {
     /// refused for the copy.
     fn open_in(&mut self, name: &str) -> Result<WholeSource, PutFault>
         ensures only_memory { IsOkUnless result PutFault.NoMemory }
-        ensures opened { IfOk result (λ source. source ≡ unwrap_or (map.get self.old name.now) []) }
+        ensures opened { IfOk result (λ source. source ≡ bytes_in (map.get self.old.files name.now)) }
         ensures unchanged { self.new ≡ self.old }
     {
         let bytes = match self.file(name) {
@@ -96,9 +100,10 @@ impl Shelf for WholeShelf {
     fn create_out(&mut self, name: &str) -> Result<WholeSink, PutFault>
         ensures only_memory { IsOkUnless result PutFault.NoMemory }
         ensures empty { IfOk result (λ sink. sink ≡ record { held = []; name = Some name.now }) }
-        ensures put { OnOk result (self.new ≡ map.insert self.old name.now []) }
-        ensures created { OnOk result (map.get self.new name.now ≡ Some []) }
-        ensures files { (n : List ℕ) → n ≢ name.now → map.get self.new n ≡ map.get self.old n }
+        ensures put { OnOk result (self.new.files ≡ map.insert self.old.files name.now []) }
+        ensures created { OnOk result (map.get self.new.files name.now ≡ Some []) }
+        ensures files { (n : List ℕ) → n ≢ name.now → map.get self.new.files n ≡ map.get self.old.files n }
+        ensures closed { self.new.closed ≡ self.old.closed }
         ensures refused { OnErr result (self.new ≡ self.old) }
     {
         let file = Place::new(self.alloc, name)?;
@@ -111,12 +116,13 @@ impl Shelf for WholeShelf {
     fn close_out(&mut self, out: WholeSink) -> Result<(), PutFault>
         requires { IsSome out.name }
         ensures succeeds { IsOk result }
-        ensures put { (n : List ℕ) → out.name ≡ Some n → self.new ≡ map.insert self.old n out.held }
-        ensures held { (n : List ℕ) → out.name ≡ Some n → map.get self.new n ≡ Some out.held }
-        ensures files { (n : List ℕ) → out.name ≢ Some n → map.get self.new n ≡ map.get self.old n }
+        ensures put { (n : List ℕ) → out.name ≡ Some n → self.new.files ≡ map.insert self.old.files n out.held }
+        ensures held { (n : List ℕ) → out.name ≡ Some n → map.get self.new.files n ≡ Some out.held }
+        ensures files { (n : List ℕ) → out.name ≢ Some n → map.get self.new.files n ≡ map.get self.old.files n }
+        ensures closed { (n : List ℕ) → out.name ≡ Some n → self.new.closed ≡ self.old.closed ++ (record { name = n; held = out.held } ∷ []) }
     {
         let (place, bytes) = out.into_parts();
-        self.files.put(place.unwrap(), bytes);
+        self.files.close(place.unwrap(), bytes);
         Ok(())
     }
 }

@@ -6,6 +6,7 @@ use Rattle.std.specs.Cmp.Lexicographic.{slice_cmp, nat_list_cmp_total}
 use Rattle.std.specs.FinMap as map
 use Rattle.std.proofs.lemmas.Map.Text.{is_eq-slice_cmp}
 use Rattle.qos_io.specs.Chain.{entries_of}
+use Rattle.qos_io.specs.Memory.{WholeShelfState}
 use Rattle.qos_io.proofs.files.Files.get.Goals as goal
 
 -- the newest entry is the one that is sought, or the search goes on behind it
@@ -14,7 +15,7 @@ find-step : (sought name bytes : List ℕ) (older : List (List ℕ × List ℕ))
 find-step sought name bytes older same e = ap (λ b. cond b (Some bytes) (map.find (slice_cmp nat_cmp) sought older)) (is_eq-slice_cmp sought name ∙ e)
 
 pub loop-at-init : goal.loop-at-init
-loop-at-init c = ap (λ m. map.get m c.args.name.now) (sym c.self.view_is) ∙ map.get-from_entries nat_list_cmp_total _ _
+loop-at-init c = ap (λ (s : WholeShelfState). map.get s.files c.args.name.now) (sym c.self.view_is) ∙ map.get-from_entries nat_list_cmp_total _ _
 
 pub returns-then-eq : goal.returns-then-eq
 returns-then-eq c =

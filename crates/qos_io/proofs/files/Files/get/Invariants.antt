@@ -7,4 +7,4 @@ use Rattle.qos_io.proofs.files.Files.get.Given as goal
 
 -- the first file of that name is among those not passed yet
 abbrev pub invariant-loop-at : goal.invariant-loop-at
-invariant-loop-at l = map.get l.self l.name ≡ map.find (slice_cmp nat_cmp) l.name (entries_of l.at)
+invariant-loop-at l = map.get l.self.files l.name ≡ map.find (slice_cmp nat_cmp) l.name (entries_of l.at)
