@@ -4,3 +4,5 @@ pub mod Schedule
 pub mod Paced
 pub mod PortRun
 pub mod Laws
+pub mod Fate
+pub mod Mbuf

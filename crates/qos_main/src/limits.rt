@@ -11,3 +11,6 @@ pub const QUANTUM: u64 = 65_536;
 
 /// The room of each dequeue, in packets.
 pub const BURST: u32 = 32;
+
+/// The queue of each packet: the first of best effort.
+pub const QUEUE: u32 = 12;
