@@ -5,14 +5,13 @@ use Rattle.std.proofs.lemmas.Bool.{cases_lt}
 use Rattle.std.proofs.lemmas.List.{append-nil, append_assoc, drop-drop, drop-take, drop_all, drop_at, length-drop, length-take-le, take-append-drop, take-take, take_all, take_at}
 use borrow.Rule.Slice.PartMut.{put_mid}
 use Rattle.qos_io.specs.Bytes.{Moves, left_after}
-use Rattle.qos_io.specs.Fault.{HasRisen}
+use Rattle.qos_io.specs.Fault.{Counts, Counts-none, Counts-then, Counts-weaker}
 
 -- n bytes were taken between these two states of a source, and no call failed
 pub record Took {S : Type 0} (remaining : S → Option (List ℕ)) (faults : S → ℕ) (IsSure : S → Type 0) (before now : S) (n : ℕ) : Type 0 where
   pub within : (left : List ℕ) → remaining before ≡ Some left → n ≤ length left
   pub left : remaining now ≡ left_after n (remaining before)
-  pub never_falls : faults before ≤ faults now
-  pub sure : IsSure before → IsSure now × (faults now ≡ faults before)
+  pub counts : Counts faults IsSure before now ⊥
 
 left_after-zero : (o : Option (List ℕ)) → o ≡ left_after 0 o
 left_after-zero None = refl
@@ -25,14 +24,6 @@ left_after-left_after n k (Some left) = ap Some (drop-drop k n left)
 -- what was left where the bytes are told
 pub left_at : (n : ℕ) {o p : Option (List ℕ)} (left : List ℕ) → p ≡ left_after n o → o ≡ Some left → p ≡ Some (drop n left)
 left_at n left e h = e ∙ ap (left_after n) h
-
--- a rise that began later is a rise
-pub HasRisen-from_earlier : (a b c : ℕ) → a ≤ b → b ≤ c → HasRisen b c → HasRisen a c
-HasRisen-from_earlier a b c h k (inl later) = inl (omega arith)
-HasRisen-from_earlier a b c h k (inr last) = elim (cases_lt a b) [
-  | inl below ↦ inl (omega arith)
-  | inr same ↦ inr (omega arith)
-]
 
 -- the first n + k of a list
 take-add : (n k : ℕ) (xs : List ℕ) → take (n + k) xs ≡ take n xs ++ take k (drop n xs)
@@ -57,19 +48,17 @@ module _ {S : Type 0} (remaining : S → Option (List ℕ)) (faults : S → ℕ)
   Took-start s = record {
     within = λ left e. omega arith;
     left = left_after-zero (remaining s);
-    never_falls = omega arith;
-    sure = λ h. (h, refl);
+    counts = Counts-none s (λ e. e);
   }
 
   -- one read more
   pub Took-more : {P : Type 0} (s m t : S) (n k : ℕ) (b d : List ℕ) → Took remaining faults IsSure s m n → IfSome (remaining m) (λ left. Moves k b d left)
-      → remaining t ≡ left_after k (remaining m) → faults m ≤ faults t → (IsSure m → IsSure t × P × (faults t ≡ faults m)) → Took remaining faults IsSure s t (n + k)
-  Took-more s m t n k b d took moves left rises sure = record {
+      → remaining t ≡ left_after k (remaining m) → (P → ⊥) → Counts faults IsSure m t P → Took remaining faults IsSure s t (n + k)
+  Took-more s m t n k b d took moves left fine counts = record {
     within = λ text e.
         let there = MatchOption-at_some _ _ (drop n text) (left_at n text took.left e) moves in
         let fits = took.within text e in
         omega (arith, there.there, length-drop n text);
     left = left ∙ ap (left_after k) took.left ∙ left_after-left_after n k (remaining s);
-    never_falls = omega (arith, took.never_falls);
-    sure = λ h. let was = took.sure h in let is = sure was.0 in (is.0, is.2 ∙ was.1);
+    counts = Counts-then (λ e. absurd e) took.counts (Counts-weaker (λ e. absurd e) counts);
   }

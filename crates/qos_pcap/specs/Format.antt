@@ -1,61 +1,39 @@
 -- The classic capture format of libpcap (pcap-savefile): what the header and a record say, by the places of their fields.
-use Rattle.std.specs.Prelude.{ℕ, ◌+◌, ◌*◌, ◌%◌, max, nat_lt, ◌==◌, if◌then◌else◌, List, length, take, drop, Result, Ok, Err}
+use Rattle.std.specs.Prelude.{ℕ, ◌+◌, ◌*◌, ◌%◌, max, nat_lt, ◌==◌, if◌then◌else◌, List, length, take, drop, Option, None, Some, Result, Ok, Err}
 use Rattle.byteorder.specs.Endian.{little_number, big_number}
-
--- the order in which a capture's numbers have their bytes
-pub data ByteOrder : Type 0 where
-  little_endian : ByteOrder
-  big_endian : ByteOrder
-
--- what the magic number tells: the byte order, and how many nanoseconds one unit of a record's fraction is
-pub record Form : Type 0 where
-  pub order : ByteOrder
-  pub unit : ℕ
+use Rattle.qos_pcap.specs.declared.fault.PcapFault.{PcapFault}
+use Rattle.qos_pcap.specs.declared.fault.PcapFault.TheVariants.{CutHeader, BadMagic, BadVersion, BadLink}
+use Rattle.qos_pcap.specs.declared.form.Form.{Form}
+use Rattle.qos_pcap.specs.declared.form.Order.{Order}
+use Rattle.qos_pcap.specs.declared.form.Order.TheVariants.{Little, Big}
 
 -- the number in the first n bytes
-abbrev pub number_in : ByteOrder → ℕ → List ℕ → ℕ
-number_in little_endian n bytes = little_number n bytes
-number_in big_endian n bytes = big_number n bytes
+abbrev pub number_in : Order → ℕ → List ℕ → ℕ
+number_in Little n bytes = little_number n bytes
+number_in Big n bytes = big_number n bytes
 
-abbrev pub little_nanoseconds : Form
-little_nanoseconds = record { order = little_endian; unit = 1 }
+-- what the magic number in the first four bytes tells, in whose own order it stands: microseconds or nanoseconds, or no capture
+abbrev pub magic_form : List ℕ → Option Form
+magic_form bytes =
+    if little_number 4 bytes == 0xa1b2c3d4 then Some (record { order = Little; unit = 1000 })
+    else if little_number 4 bytes == 0xa1b23c4d then Some (record { order = Little; unit = 1 })
+    else if big_number 4 bytes == 0xa1b2c3d4 then Some (record { order = Big; unit = 1000 })
+    else if big_number 4 bytes == 0xa1b23c4d then Some (record { order = Big; unit = 1 })
+    else None
 
--- how a capture ends: at its end, or at the place where it is at fault
-pub data CaptureEnd : Type 0 where
-  -- all of it was read
-  whole : CaptureEnd
-  -- fewer than 24 bytes, and how many
-  cut_header : ℕ → CaptureEnd
-  -- no magic number of the format
-  bad_magic : CaptureEnd
-  -- a major version other than 2
-  bad_version : CaptureEnd
-  -- a link type other than Ethernet
-  bad_link : CaptureEnd
-  -- a record's head or body ends early, and where the record begins
-  cut_record : ℕ → CaptureEnd
-  -- a captured length above 262,144, where the record begins and that length
-  huge_record : ℕ → ℕ → CaptureEnd
-  -- more records than the limit, and where the first of these begins
-  too_many : ℕ → CaptureEnd
-
--- the form of a capture whose first bytes have this magic number in that order, and go on as a header does
-abbrev header_in : ByteOrder → List ℕ → ℕ → Result Form CaptureEnd
-header_in order bytes unit =
-    if number_in order 2 (drop 4 bytes) == 2 then
-    if number_in order 4 (drop 20 bytes) % 65536 == 1 then Ok (record { order = order; unit = unit })
-    else Err bad_link
-    else Err bad_version
+-- the form of a header that begins with a magic number of this form, or the first fault of what follows it: the major version is 2, and the low 16 bits of the link type are 1
+abbrev pub header_after : List ℕ → Option Form → Result Form PcapFault
+header_after bytes None = Err BadMagic
+header_after bytes (Some form) =
+    if number_in form.order 2 (drop 4 bytes) == 2 then
+    if number_in form.order 4 (drop 20 bytes) % 65536 == 1 then Ok form
+    else Err BadLink
+    else Err BadVersion
 
 -- the form that the first 24 bytes tell, or the first fault of them that applies
-abbrev pub header_of : List ℕ → Result Form CaptureEnd
+abbrev pub header_of : List ℕ → Result Form PcapFault
 header_of bytes =
-    if nat_lt (length bytes) 24 then Err (cut_header (length bytes))
-    else if little_number 4 bytes == 0xa1b2c3d4 then header_in little_endian bytes 1000
-    else if little_number 4 bytes == 0xa1b23c4d then header_in little_endian bytes 1
-    else if big_number 4 bytes == 0xa1b2c3d4 then header_in big_endian bytes 1000
-    else if big_number 4 bytes == 0xa1b23c4d then header_in big_endian bytes 1
-    else Err bad_magic
+    if nat_lt (length bytes) 24 then Err (CutHeader (length bytes)) else header_after bytes (magic_form bytes)
 
 -- A record is 16 bytes of head (seconds, fraction, captured length and original length) and as many bytes as the captured length says.
 pub record Record : Type 0 where

@@ -1,4 +1,6 @@
 pub mod Fill
+pub mod Faults
+pub mod First
 pub mod Format
 pub mod Given
 pub mod Heads

@@ -1,7 +1,7 @@
 //! Reading as many bytes as are wanted, where a source gives them in parts.
-ghost use Rattle.std.specs.Prelude.{◌≡◌, ◌≤◌, ℕ, List, Option, Some, length, min, IsOk, IfOk, OnErr};
+ghost use Rattle.std.specs.Prelude.{◌≡◌, ◌≤◌, ℕ, List, Option, Some, length, min, IsErr, IfOk};
 ghost use Rattle.qos_io.specs.Bytes.{left_after};
-ghost use Rattle.qos_io.specs.Fault.{HasRisen};
+ghost use Rattle.qos_io.specs.Fault.{Counts};
 ghost use Rattle.qos_pcap.specs.Fill.{Fills};
 
 use qos_io::{Failed, Source};
@@ -11,9 +11,7 @@ pub(crate) fn fill<S: Source>(source: &mut S, buf: &mut [u8]) -> Result<usize, F
     ensures within { IfOk result (λ n. n ≤ length buf.old) }
     ensures bytes { IfOk result (λ n. (left : List ℕ) → S.remaining source.old ≡ Some left → Fills n buf.old buf.new left) }
     ensures left { IfOk result (λ n. S.remaining source.new ≡ left_after n (S.remaining source.old)) }
-    ensures failed { OnErr result (HasRisen (S.faults source.old) (S.faults source.new)) }
-    ensures never_falls { S.faults source.old ≤ S.faults source.new }
-    ensures sure { S.IsSure source.old → S.IsSure source.new × IsOk result × (S.faults source.new ≡ S.faults source.old) }
+    ensures faults { Counts S.faults S.IsSure source.old source.new (IsErr result) }
 {
     let mut filled = 0;
     while filled < buf.len() {
@@ -30,9 +28,7 @@ pub(crate) fn fill<S: Source>(source: &mut S, buf: &mut [u8]) -> Result<usize, F
 pub(crate) fn skip<S: Source>(source: &mut S, count: usize) -> Result<usize, Failed>
     ensures bytes { IfOk result (λ n. (left : List ℕ) → S.remaining source.old ≡ Some left → n ≡ min count (length left)) }
     ensures left { IfOk result (λ n. S.remaining source.new ≡ left_after n (S.remaining source.old)) }
-    ensures failed { OnErr result (HasRisen (S.faults source.old) (S.faults source.new)) }
-    ensures never_falls { S.faults source.old ≤ S.faults source.new }
-    ensures sure { S.IsSure source.old → S.IsSure source.new × IsOk result × (S.faults source.new ≡ S.faults source.old) }
+    ensures faults { Counts S.faults S.IsSure source.old source.new (IsErr result) }
 {
     let mut passed = [0u8; 4096];
     let mut done = 0;

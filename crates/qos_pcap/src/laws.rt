@@ -2,12 +2,12 @@
 ghost use Rattle.qos_pcap.specs.Reads.{ReadsOneWay};
 ghost use Rattle.qos_pcap.specs.Written.{ReadsBack};
 
-/// Each text and limit have exactly one list of records and one end.
+/// Each text and limit have exactly one list of records and one stop.
 pub fn reads_one_way()
     ensures { ReadsOneWay }
 {}
 
-/// Records that are written are read again as the same records, and then the end.
+/// Records that are written are read again as the same records, up to the end.
 pub fn reads_back()
     ensures { ReadsBack }
 {}

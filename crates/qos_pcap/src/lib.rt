@@ -1,13 +1,15 @@
 //! Captures in libpcap's classic format: reading one record at a time from any source, and writing.
 //!
-//! It stands on `byteorder` for the fields. It promises that what is read are the records and the end
-//! that the format gives to the source's bytes, and that what is written are the texts of the format.
+//! It stands on `byteorder` for the fields. All four magic numbers are read: microseconds and nanoseconds, in
+//! either byte order. It promises that what is read are the records and the stop that the format gives to the
+//! source's bytes, to the byte, and that what is written are the texts of the format.
 #![tactic(auto)]
 
 mod capture;
 mod fault;
 mod fields;
 mod fill;
+mod form;
 mod head;
 pub mod laws;
 mod opening;

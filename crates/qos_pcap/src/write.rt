@@ -1,11 +1,11 @@
 //! Writing captures: little-endian, with nanoseconds, link type Ethernet (pcap-savefile).
-ghost use Rattle.std.specs.Prelude.{◌≡◌, ◌≤◌, ◌++◌, ◌/◌, ◌%◌, ℕ, length, take, OnOk, OnErr, IsErrOf};
+ghost use Rattle.std.specs.Prelude.{◌≡◌, ◌≤◌, ◌++◌, ◌/◌, ◌%◌, length, OnOk, OnErr, IsErrOf};
 ghost use Rattle.byteorder.specs.Endian.{little_bytes};
-ghost use Rattle.qos_io.specs.Bytes.{held_after};
-ghost use Rattle.qos_io.specs.Fault.{HasRisen};
+ghost use Rattle.qos_io.specs.Bytes.{held_after, PutSome};
+ghost use Rattle.qos_io.specs.Fault.{Counts};
 ghost use Rattle.qos_pcap.specs.Written.{header_text, record_text};
 
-use crate::fields::{ETHERNET, MAGIC, MAJOR};
+use crate::fields::{ETHERNET, MAJOR, NANOSECONDS};
 use byteorder::{ByteOrder, LittleEndian};
 use qos_io::{PutFault, Sink};
 
@@ -23,7 +23,7 @@ fn header() -> [u8; 24]
     ensures { result ≡ header_text }
 {
     let mut bytes = [0u8; 24];
-    LittleEndian::write_u32(&mut bytes, MAGIC);
+    LittleEndian::write_u32(&mut bytes, NANOSECONDS);
     LittleEndian::write_u16(&mut bytes[4..], MAJOR);
     LittleEndian::write_u16(&mut bytes[6..], MINOR);
     LittleEndian::write_u32(&mut bytes[16..], SNAPLEN);
@@ -49,11 +49,9 @@ fn record_head(stamp: u64, wire: u32, cap: u32) -> [u8; 16]
 /// `Failed`: the sink failed. `NoMemory`: the sink was refused memory.
 pub fn put_header<K: Sink>(out: &mut K) -> Result<(), PutFault>
     ensures added { OnOk result (K.contents out.new ≡ held_after header_text (K.contents out.old)) }
-    ensures refused { OnErr result ((n : ℕ) × (n ≤ length header_text) × (K.contents out.new ≡ held_after (take n header_text) (K.contents out.old))) }
-    ensures failed { IsErrOf result PutFault.Failed → HasRisen (K.faults out.old) (K.faults out.new) }
+    ensures refused { OnErr result (PutSome header_text (K.contents out.old) (K.contents out.new)) }
     ensures name { K.name out.new ≡ K.name out.old }
-    ensures never_falls { K.faults out.old ≤ K.faults out.new }
-    ensures sure { K.IsSure out.old → K.IsSure out.new × (IsErrOf result PutFault.Failed → ⊥) × (K.faults out.new ≡ K.faults out.old) }
+    ensures faults { Counts K.faults K.IsSure out.old out.new (IsErrOf result PutFault.Failed) }
 {
     out.put(&header())
 }
@@ -69,12 +67,9 @@ pub fn put_record<K: Sink>(out: &mut K, stamp: u64, wire: u32, body: &[u8]) -> R
     requires stamp { stamp ≤ 4294967295999999999 }
 
     ensures added { OnOk result (K.contents out.new ≡ held_after (record_text stamp wire body.now) (K.contents out.old)) }
-    ensures refused { OnErr result ((n : ℕ) × (n ≤ length (record_text stamp wire body.now))
-        × (K.contents out.new ≡ held_after (take n (record_text stamp wire body.now)) (K.contents out.old))) }
-    ensures failed { IsErrOf result PutFault.Failed → HasRisen (K.faults out.old) (K.faults out.new) }
+    ensures refused { OnErr result (PutSome (record_text stamp wire body.now) (K.contents out.old) (K.contents out.new)) }
     ensures name { K.name out.new ≡ K.name out.old }
-    ensures never_falls { K.faults out.old ≤ K.faults out.new }
-    ensures sure { K.IsSure out.old → K.IsSure out.new × (IsErrOf result PutFault.Failed → ⊥) × (K.faults out.new ≡ K.faults out.old) }
+    ensures faults { Counts K.faults K.IsSure out.old out.new (IsErrOf result PutFault.Failed) }
 {
     out.put(&record_head(stamp, wire, body.len() as u32))?;
     out.put(body)
