@@ -1,8 +1,12 @@
+pub mod Words
 pub mod Plan
 pub mod Pacer
 pub mod Schedule
 pub mod Paced
-pub mod PortRun
-pub mod Laws
+pub mod Run
 pub mod Fate
+pub mod Output
+pub mod Laws
+pub mod PortRun
 pub mod Mbuf
+pub mod Sender

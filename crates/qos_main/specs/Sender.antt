@@ -1,0 +1,35 @@
+-- What a sender promises of its output.
+use Rattle.std.specs.Prelude.{◌≡◌, ℕ, List, Option, None, Some, IsSome, IfSome, MatchOption}
+use Rattle.std.specs.Option.{option_map}
+use Rattle.qos_base.specs.declared.packet.Pkt.{Pkt}
+use Rattle.qos_base.specs.declared.packet.Departure.{Departure}
+use Rattle.qos_io.specs.declared.sink.Sink.{Ghosts}
+use Rattle.qos_io.specs.declared.sink.PutFault.TheVariants.{Failed}
+use Rattle.qos_main.specs.declared.send.Sender.{Sender}
+use Rattle.qos_main.specs.Output.{Target, IsWhole, IsCut}
+
+module _ {K : Type 0} {G : Ghosts K} where
+  -- how its sends are written
+  abbrev pub target_of : Sender K G → (ℕ → List ℕ) → Target
+  target_of s body = record { origin = s.origin; line = s.line; body = body }
+
+  -- Its output stands where these sends have brought it, where these are the bodies of the records by their places: a
+  -- sink that tells what it holds has all of it, or was cut.
+  pub record HasWritten (body : ℕ → List ℕ) (sends : List (Departure Pkt)) (s : Sender K G) : Type 0 where
+    pub told : (k : K) (text : List ℕ) → s.sink ≡ Some k → G.contents k ≡ Some text
+        → MatchOption s.fault (IsWhole (target_of s body) sends s.sent text) (λ _. IsCut (target_of s body) sends s.sent text)
+    -- nothing is written where there is no sink
+    pub none : s.sink ≡ None → (s.sent ≡ 0) × IsSome s.fault
+
+  -- no put has failed, and none will
+  pub record IsFine (s : Sender K G) : Type 0 where
+    pub there : IsSome s.sink
+    pub sure : IfSome s.sink G.IsSure
+    pub none_failed : s.fault ≡ Some Failed → ⊥
+
+  -- what no call of it changes
+  pub record StaysSender (before after : Sender K G) : Type 0 where
+    pub origin : after.origin ≡ before.origin
+    pub line : after.line ≡ before.line
+    pub name : option_map G.name after.sink ≡ option_map G.name before.sink
+    pub fine : IsFine before → IsFine after

@@ -1,0 +1,120 @@
+//! Send: what is sent is put into the output and counted, and the first fault is kept.
+ghost use Rattle.std.specs.Prelude.{◌≡◌, ◌≤◌, ◌<◌, ◌+◌, ◌^◌, ◌++◌, [], ◌∷◌, ℕ, List, All, Some, None, map, length, IsErrOf, OnOk, OnErr, IfSome, IsSome};
+ghost use Rattle.std.specs.Option.{option_map};
+ghost use Rattle.qos_base.specs.Time.{IsLineRate};
+ghost use Rattle.qos_base.specs.declared.packet.Departure.{Departure};
+ghost use Rattle.qos_base.specs.declared.packet.Pkt.{Pkt};
+ghost use Rattle.qos_io.specs.Bytes.{held_after, PutSome};
+ghost use Rattle.qos_io.specs.Fault.{Counts};
+ghost use Rattle.qos_main.specs.declared.mbuf.Mbuf.{Mbuf};
+ghost use Rattle.qos_main.specs.Mbuf.{IsBodyIn, seen};
+ghost use Rattle.qos_main.specs.Output.{Target, send_text};
+ghost use Rattle.qos_main.specs.Sender.{HasWritten, IsFine, StaysSender};
+
+use crate::mbuf::Mbuf;
+use qos_base::{Departure, send_stamp};
+use qos_io::{PutFault, Sink};
+use qos_pcap::{put_header, put_record};
+
+/// The output of a port, as far as it was written.
+#[derive(Drop)]
+pub struct Sender<K: Sink> {
+    /// Where it is written; None where it could not be created.
+    pub sink: Option<K>,
+    /// The origin of its stamps, in nanoseconds.
+    pub origin: u64,
+    /// The rate of the port's line, in bytes per second.
+    pub line: u64,
+    /// How many sends' records were put whole.
+    pub sent: u64,
+    /// How many sends' records were not.
+    pub unwritten: u64,
+    /// The first fault. After it nothing more is put.
+    pub fault: Option<PutFault>,
+}
+
+impl<K: Sink> Sender<K> {
+    /// Begins an output: its header is put, where there is a sink.
+    ///
+    /// `origin` is in nanoseconds, and `line` in bytes per second.
+    pub fn begin(sink: Option<K>, origin: u64, line: u64) -> Sender<K>
+        ensures written { ((k : K) (held : List ℕ) → sink ≡ Some k → K.contents k ≡ Some held → held ≡ []) → (body : ℕ → List ℕ) → HasWritten body [] result }
+        ensures numbers { (result.sent ≡ 0) × (result.unwritten ≡ 0) }
+        ensures stamps { (result.origin ≡ origin) × (result.line ≡ line) }
+        ensures name { option_map K.name result.sink ≡ option_map K.name sink }
+        ensures fine { IsSome sink → IfSome sink K.IsSure → IsFine result }
+    {
+        let (sink, fault) = match sink {
+            None => (None, Some(PutFault::Failed)),
+            Some(mut sink) => {
+                let fault = put_header(&mut sink).err();
+                (Some(sink), fault)
+            }
+        };
+        Sender {
+            sink,
+            origin,
+            line,
+            sent: 0,
+            unwritten: 0,
+            fault,
+        }
+    }
+
+    /// Writes the record of a send, unless there was a fault, and counts it.
+    pub fn send(&mut self, departure: &Departure<Mbuf>)
+        requires line { IsLineRate self.old.line }
+        requires few { self.old.sent + self.old.unwritten < 2 ^ 62 }
+        ensures written { (body : ℕ → List ℕ) (sends : List (Departure Pkt)) → IsBodyIn body departure.now.parcel
+            → HasWritten body sends self.old → HasWritten body (sends ++ seen departure.now ∷ []) self.new }
+        ensures counted { self.new.sent + self.new.unwritten ≡ self.old.sent + self.old.unwritten + 1 }
+        ensures stays { StaysSender self.old self.new }
+    {
+        let put = match (&mut self.sink, self.fault) {
+            (Some(sink), None) => put_send(sink, self.origin, self.line, departure),
+            _ => {
+                self.unwritten += 1;
+                return;
+            }
+        };
+        match put {
+            Ok(()) => self.sent += 1,
+            Err(fault) => {
+                self.fault = Some(fault);
+                self.unwritten += 1;
+            }
+        }
+    }
+
+    /// Writes the records of a dequeue's sends, in their order.
+    pub fn send_all(&mut self, sends: &[Departure<Mbuf>])
+        requires line { IsLineRate self.old.line }
+        requires few { self.old.sent + self.old.unwritten + length sends.now < 2 ^ 62 }
+        ensures written { (body : ℕ → List ℕ) (before : List (Departure Pkt)) → All (λ (d : Departure Mbuf). IsBodyIn body d.parcel) sends.now
+            → HasWritten body before self.old → HasWritten body (before ++ map seen sends.now) self.new }
+        ensures counted { self.new.sent + self.new.unwritten ≡ self.old.sent + self.old.unwritten + length sends.now }
+        ensures stays { StaysSender self.old self.new }
+    {
+        for departure in sends {
+            self.send(departure);
+        }
+    }
+}
+
+// Puts the record of a send.
+fn put_send<K: Sink>(
+    out: &mut K,
+    origin: u64,
+    line: u64,
+    departure: &Departure<Mbuf>,
+) -> Result<(), PutFault>
+    requires { IsLineRate line }
+    ensures added { (body : ℕ → List ℕ) → IsBodyIn body departure.now.parcel → OnOk result (K.contents out.new ≡ held_after (send_text (record { origin = origin; line = line; body = body }) (seen departure.now)) (K.contents out.old)) }
+    ensures refused { (body : ℕ → List ℕ) → IsBodyIn body departure.now.parcel → OnErr result (PutSome (send_text (record { origin = origin; line = line; body = body }) (seen departure.now)) (K.contents out.old) (K.contents out.new)) }
+    ensures name { K.name out.new ≡ K.name out.old }
+    ensures faults { Counts K.faults K.IsSure out.old out.new (IsErrOf result PutFault.Failed) }
+{
+    let mbuf = &departure.parcel;
+    let stamp = send_stamp(origin, departure.time, line);
+    put_record(out, stamp, mbuf.pkt.wire, mbuf.frame())
+}
