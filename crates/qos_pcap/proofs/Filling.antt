@@ -53,8 +53,8 @@ module _ {S : Type 0} (remaining : S → Option (List ℕ)) (faults : S → ℕ)
 
   -- one read more
   pub Took-more : {P : Type 0} (s m t : S) (n k : ℕ) (b d : List ℕ) → Took remaining faults IsSure s m n → IfSome (remaining m) (λ left. Moves k b d left)
-      → remaining t ≡ left_after k (remaining m) → (P → ⊥) → Counts faults IsSure m t P → Took remaining faults IsSure s t (n + k)
-  Took-more s m t n k b d took moves left fine counts = record {
+      → remaining t ≡ left_after k (remaining m) → Counts faults IsSure m t P → Took remaining faults IsSure s t (n + k)
+  Took-more s m t n k b d took moves left counts = record {
     within = λ text e.
         let there = MatchOption-at_some _ _ (drop n text) (left_at n text took.left e) moves in
         let fits = took.within text e in

@@ -1,5 +1,5 @@
 pub mod Filling
 pub mod Giving
+pub mod Opened
 pub mod OneWay
-pub mod Putting
 pub mod ReadBack

@@ -7,10 +7,17 @@ use Rattle.std.proofs.lemmas.List.Elements.{All-head, All-tail}
 use Rattle.std.proofs.lemmas.Nat.{div_below, mod_below}
 use Rattle.byteorder.specs.Endian.{little_bytes, little_number}
 use Rattle.byteorder.specs.Numbers.{little_number-reads_back}
-use Rattle.qos_pcap.specs.Format.{whole, Record, cap_in, header_of, little_nanoseconds, record_in}
+use Rattle.qos_pcap.specs.declared.fault.Stop.TheVariants.{End}
+use Rattle.qos_pcap.specs.declared.form.Form.{Form}
+use Rattle.qos_pcap.specs.declared.form.Order.TheVariants.{Little}
+use Rattle.qos_pcap.specs.Format.{Record, cap_in, header_of, record_in}
 use Rattle.qos_pcap.specs.Reads.{ReadsFrom}
 use Rattle.qos_pcap.specs.Written.{IsWritable, ReadsBack, header_text, record_text}
-use Rattle.qos_pcap.proofs.Giving.{ReadsFrom-same, end_at-whole}
+use Rattle.qos_pcap.proofs.Giving.{ReadsFrom-same, stop_at-whole}
+
+-- the form that is written
+abbrev little_nanoseconds : Form
+little_nanoseconds = record { order = Little; unit = 1 }
 
 -- the records' texts, one after another
 abbrev texts : List Record → List ℕ
@@ -55,7 +62,7 @@ text-length : (r : Record) (rest : List ℕ) → length (record_text r.stamp r.w
 text-length r rest = omega arith
 
 -- the records are read from their texts, where as many may be read
-ReadsFrom-texts : (at limit : ℕ) (records : List Record) → All IsWritable records → length records ≤ limit → ReadsFrom little_nanoseconds at limit (texts records) records whole
+ReadsFrom-texts : (at limit : ℕ) (records : List Record) → All IsWritable records → length records ≤ limit → ReadsFrom little_nanoseconds at limit (texts records) records End
 ReadsFrom-texts at limit [] all room = refl
 ReadsFrom-texts at limit (r ∷ rs) all room =
     let first = All-head IsWritable r rs all in
@@ -64,13 +71,12 @@ ReadsFrom-texts at limit (r ∷ rs) all room =
     let cap : cap_in little_nanoseconds bytes ≡ r.cap = ap (λ (x : Record). x.cap) here in
     let size = text-length r (texts rs) in
     let body = length-append r.body (texts rs) in
-    let none = end_at-whole at limit bytes (omega arith) (omega (arith, size)) (rw cap first.cap_limit) (rw cap (omega (arith, size, body, first.cap))) in
+    let none = stop_at-whole little_nanoseconds at limit bytes (omega arith) (omega (arith, size)) (rw cap first.cap_limit) (rw cap (omega (arith, size, body, first.cap))) in
     let behind : texts rs ≡ drop (16 + r.cap) bytes = sym (drop_at r.body (texts rs) r.cap (sym first.cap)) ∙ drop-drop r.cap 16 bytes in
-    (none, sym here, ReadsFrom-same _ _ _ _ _ _ rs whole refl refl behind (ReadsFrom-texts (at + 16 + r.cap) (limit - 1) rs (All-tail IsWritable r rs all) (omega arith)))
+    (none, sym here, ReadsFrom-same little_nanoseconds _ _ _ _ _ _ rs End refl refl behind (ReadsFrom-texts (at + 16 + r.cap) (limit - 1) rs (All-tail IsWritable r rs all) (omega arith)))
 
 pub reads_back : ReadsBack
 reads_back = record {
   each = λ records limit all room.
-      let header = header_of-header_text (texts records) in
-      (header, rw header (ReadsFrom-texts 24 limit records all room));
+      rw (header_of-header_text (texts records)) (ReadsFrom-texts 24 limit records all room);
 }

@@ -1,5 +1,5 @@
 -- The stamp of a head that can be read, whether its body is whole or cut.
-use Rattle.std.specs.Prelude.{◌≡◌, ◌≢◌, ℕ, nat_lt, ◌==◌, if◌then◌else◌, List, length, drop, Option, None, Some, Result, Ok, Err}
+use Rattle.std.specs.Prelude.{◌≡◌, ◌≢◌, ℕ, zero, suc, nat_lt, if◌then◌else◌, List, length, drop, Option, None, Some, Result, Ok, Err}
 use Rattle.qos_pcap.specs.declared.fault.PcapFault.{PcapFault}
 use Rattle.qos_pcap.specs.declared.fault.PcapFault.TheVariants.{Read}
 use Rattle.qos_pcap.specs.declared.form.Form.{Form}
@@ -8,9 +8,9 @@ use Rattle.qos_pcap.specs.Format.{cap_in, header_of, stamp_in}
 
 -- The stamp that the head at the front of these bytes has, where `left` more records may be read. A head is there where its 16 bytes are and its captured length is at most 262,144.
 abbrev pub stamp_at : Form → ℕ → List ℕ → Option ℕ
-stamp_at form left bytes =
-    if left == 0 then None
-    else if nat_lt (length bytes) 16 then None
+stamp_at form zero bytes = None
+stamp_at form (suc left) bytes =
+    if nat_lt (length bytes) 16 then None
     else if nat_lt 262144 (cap_in form bytes) then None
     else Some (stamp_in form bytes)
 

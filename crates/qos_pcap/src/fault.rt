@@ -49,10 +49,7 @@ impl PcapFault {
         match *self {
             PcapFault::CutHeader(length) => u64::from(length),
             PcapFault::CutRecord(at) | PcapFault::HugeRecord(at, _) | PcapFault::TooMany(at) => at,
-            PcapFault::BadMagic
-            | PcapFault::BadVersion
-            | PcapFault::BadLink
-            | PcapFault::Read => 0,
+            PcapFault::BadMagic | PcapFault::BadVersion | PcapFault::BadLink | PcapFault::Read => 0,
         }
     }
 }

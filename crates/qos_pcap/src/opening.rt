@@ -41,6 +41,8 @@ pub fn open_capture<S: Source>(mut src: S, limit: u32) -> Result<Capture<S>, Pca
     let Ok(n) = fill(&mut src, &mut bytes) else {
         return Err(PcapFault::Read);
     };
-    let form = form_in(&bytes[..n])?;
-    Ok(Capture::after_header(src, form, limit))
+    match form_in(&bytes[..n]) {
+        Ok(form) => Ok(Capture::after_header(src, form, limit)),
+        Err(fault) => Err(fault),
+    }
 }

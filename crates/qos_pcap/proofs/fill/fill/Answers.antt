@@ -8,6 +8,6 @@ loop-filled-preserved g c =
     let i = c.loop-filled.invariant in
     record {
       within = simp (length-append, length-take, length-drop) (omega (arith, simp (length-take, length-drop) at c.in_ok-n.ensures.within, simp (length-take, length-drop) at c.read.auto.buf));
-      took = Took-more _ _ _ _ _ _ _ _ _ _ i.took c.in_ok-n.ensures.bytes c.in_ok-n.ensures.left c.in_ok-n.ensures.never_falls c.in_ok-n.ensures.sure;
+      took = Took-more _ _ _ _ _ _ _ _ _ _ i.took c.in_ok-n.ensures.bytes c.in_ok-n.ensures.left c.in_ok-n.ensures.faults;
       front = λ left e. filled_more _ _ left _ _ _ (i.took.within left e) (sym c.loop-filled.auto.buf) i.within (i.front left e) (MatchOption-at_some _ _ _ (left_at _ left i.took.left e) c.in_ok-n.ensures.bytes);
     }
