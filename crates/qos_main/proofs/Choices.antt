@@ -1,5 +1,5 @@
 -- A choice by a comparison of two numbers.
-use Rattle.std.proofs.Common.{◌≡◌, ◌<◌, ◌≤◌, ◌⊎◌, ℕ, zero, suc, false, cond, eqb, leb, ltb, refl, inl, inr, arith}
+use Rattle.std.proofs.Common.{◌≡◌, ◌<◌, ◌≤◌, ◌⊎◌, ℕ, zero, suc, false, cond, eqb, leb, ltb, Result, Ok, Err, OnErr, refl, inl, inr, arith}
 use Rattle.std.proofs.lemmas.Bool.Decides.{nat_tests}
 
 pub if-le : {X : Type 0} (m n : ℕ) (x y : X) → m ≤ n → cond (leb m n) x y ≡ x
@@ -26,3 +26,8 @@ zero_or_some (suc n) = inr (omega arith)
 
 pub eqb-some : (n : ℕ) → eqb n 0 ≡ false → 0 < n
 eqb-some n is = grind (arith, nat_tests)
+
+-- what holds anyway holds of a failure
+pub on_err : {A E P : Type 0} (r : Result A E) → P → OnErr r P
+on_err (Ok x) p = tt
+on_err (Err e) p = p

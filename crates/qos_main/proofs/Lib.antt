@@ -5,3 +5,8 @@ pub mod Runs
 pub mod Numbers
 pub mod Seven
 pub mod Outputs
+pub mod Senders
+pub mod Advances
+pub mod Egresses
+pub mod Courses
+pub mod Arrivals

@@ -83,16 +83,16 @@ module _ (kept : Kept) (plan : Plan) where
 
 module _ (plan : Plan) where
   -- the journal of the second course begins with that of the first
-  abbrev Grows : Course → Course → Type 0
+  abbrev pub Grows : Course → Course → Type 0
   Grows c d = (rest : List Entry) × (d.journal ≡ c.journal ++ rest)
 
-  Grows-trans : (c d e : Course) → Grows c d → Grows d e → Grows c e
+  pub Grows-trans : (c d e : Course) → Grows c d → Grows d e → Grows c e
   Grows-trans c d e one two = (one.0 ++ two.0, two.1 ∙ ap (λ es. es ++ two.0) one.1 ∙ append_assoc c.journal one.0 two.0)
 
   Grows-refl : (c d : Course) → d.journal ≡ c.journal → Grows c d
   Grows-refl c d same = ([], same ∙ sym (append-nil c.journal))
 
-  advance_by-grows : (step to times : ℕ) (c : Course) → Grows c (advance_by plan step to times c)
+  pub advance_by-grows : (step to times : ℕ) (c : Course) → Grows c (advance_by plan step to times c)
   unfolding advance_by
   advance_by-grows step to zero c = Grows-refl c c refl
   advance_by-grows step to (suc times) c =
@@ -109,7 +109,7 @@ module _ (plan : Plan) where
       (λ _. Grows-refl c at_to refl)
       (λ _. Grows-trans c next more (Dequeue m plan.burst ∷ [], refl) (advance_by-grows step to times next))))
 
-  joined-grows : (p : Pkt) (c : Course) → Grows c (after_join plan p c)
+  pub joined-grows : (p : Pkt) (c : Course) → Grows c (after_join plan p c)
   joined-grows p c =
       let there : Course = record c { journal = c.journal ++ Arrive p ∷ [] } in
       let next = after_dequeue plan there.clock there in
@@ -117,12 +117,12 @@ module _ (plan : Plan) where
       (λ _. Grows-trans c there next (Arrive p ∷ [], refl) (Dequeue there.clock plan.burst ∷ [], refl))
       (λ _. (Arrive p ∷ [], refl))
 
-  arrived-grows : (b : ℕ) (p : Pkt) (c : Course) → Grows c (after_arrival plan b p c)
+  pub arrived-grows : (b : ℕ) (p : Pkt) (c : Course) → Grows c (after_arrival plan b p c)
   unfolding advance
   arrived-grows b p c =
       Grows-trans c (advance plan b c) (after_arrival plan b p c) (advance_by-grows (step_to plan.quantum b c.clock) b (b - c.clock) c) (joined-grows p (advance plan b c))
 
-  fold-grows : (byte_time : Pkt → ℕ) (c : Course) (ps : List Pkt) → Grows c (fold (λ c p. after_arrival plan (byte_time p) p c) c ps)
+  pub fold-grows : (byte_time : Pkt → ℕ) (c : Course) (ps : List Pkt) → Grows c (fold (λ c p. after_arrival plan (byte_time p) p c) c ps)
   fold-grows byte_time c [] = Grows-refl c c refl
   fold-grows byte_time c (p ∷ ps) =
       let next = after_arrival plan (byte_time p) p c in

@@ -2,8 +2,8 @@
 use Rattle.std.proofs.Common.{◌≡◌, ◌<◌, ◌≤◌, ℕ, ◌+◌, List, [], ◌∷◌, ◌++◌, length, take, Option, Some, None, slice_get, refl, sym, ap, ◌∙◌, arith, append_assoc, length-append}
 use Rattle.std.specs.List.{flat_map}
 use Rattle.std.proofs.lemmas.Grind.{flat_map-append}
-use Rattle.std.proofs.lemmas.List.{append-nil, take-append-le, take_all, take_at}
-use Rattle.std.proofs.lemmas.Option.{slice_get_within}
+use Rattle.std.proofs.lemmas.List.{append-nil, take-append-le, take_at, length_push, get_or_push, get_or_append_left}
+use Rattle.std.proofs.lemmas.Option.{slice_get_within, slice_get_read, get_or_from_slice_get}
 use Rattle.qos_base.specs.declared.packet.Pkt.{Pkt}
 use Rattle.qos_base.specs.declared.packet.Departure.{Departure}
 use Rattle.qos_base.specs.Time.{send_stamp_of}
@@ -38,7 +38,7 @@ module _ (t : Target) where
   }
 
   get_pushed : (sends : List (Departure Pkt)) (d : Departure Pkt) (count : ℕ) → count ≡ length sends → slice_get (sends ++ d ∷ []) count ≡ Some d
-  get_pushed sends d count is = ?
+  get_pushed sends d count is = slice_get_read (sends ++ d ∷ []) (length sends + 1) count d (sym (length_push sends d)) (omega arith) (sym (get_or_push sends d d count (sym is)))
 
   pub IsCut-now : (sends : List (Departure Pkt)) (d : Departure Pkt) (count n : ℕ) (held : List ℕ) → IsWhole t sends count held → IsCut t (sends ++ d ∷ []) count (held ++ take n (send_text t d))
   IsCut-now sends d count n held whole =
@@ -46,7 +46,11 @@ module _ (t : Target) where
       (ap (λ ts. ts ++ take n (send_text t d)) (whole.is ∙ ap (output_text t) (sym (take_at sends (d ∷ []) count (sym whole.all)))))
 
   get_before : (sends more : List (Departure Pkt)) (count : ℕ) (next : Departure Pkt) → slice_get sends count ≡ Some next → slice_get (sends ++ more) count ≡ Some next
-  get_before sends more count next is = ?
+  get_before sends more count next is =
+      let within = slice_get_within sends count next is in
+      let longer = length-append sends more in
+      slice_get_read (sends ++ more) (length (sends ++ more)) count next refl (omega (arith, within, longer))
+      (sym (get_or_append_left sends more next count within ∙ get_or_from_slice_get sends count next next is))
 
   pub IsCut-more : (sends more : List (Departure Pkt)) (count : ℕ) (text : List ℕ) → IsCut t sends count text → IsCut t (sends ++ more) count text
   IsCut-more sends more count text (in_header none n is) = in_header none n is

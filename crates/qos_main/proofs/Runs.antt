@@ -47,7 +47,7 @@ module _ {T : Type 0} (packet : T → Pkt) where
       (subst (λ (js : List Entry). IsSound packet plan (start_of plan.shaper) (new_pacer plan.quantum) js none) (sym empty) (fresh plan plan_is)))
 
   module _ (plan : Plan) (port : PortState T) (pacer : PacerState) (journal : List Entry) (tally : Tally) where
-    sends-few : IsSound packet plan port pacer journal tally → length (schedule_of plan.shaper journal).sends ≤ MAX_RECORDS
+    pub sends-few : IsSound packet plan port pacer journal tally → length (schedule_of plan.shaper journal).sends ≤ MAX_RECORDS
     sends-few sound =
         let total = sound.account in
         let few = sound.few in

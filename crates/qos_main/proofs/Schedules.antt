@@ -1,11 +1,14 @@
 -- One entry more in a journal.
-use Rattle.std.proofs.Common.{◌≡◌, ◌≤◌, ℕ, length, ◌+◌, List, [], ◌∷◌, ◌++◌, refl, ap, arith}
+use Rattle.std.proofs.Common.{◌≡◌, ◌≤◌, ℕ, length, ◌+◌, List, [], ◌∷◌, ◌++◌, ltb, refl, ap, ◌∙◌, arith}
+use Rattle.std.proofs.lemmas.Bool.{cond_both}
+use Rattle.port_sched.specs.declared.plain.TheConstants.{QUEUE_SIZE}
+use Rattle.port_sched.specs.PortState.{after_arrival}
 use Rattle.std.proofs.lemmas.List.Sums.{fold-append}
 use Rattle.qos_base.specs.declared.packet.Pkt.{Pkt}
 use Rattle.port_sched.specs.declared.shaper.Shaper.{Shaper}
 use Rattle.qos_main.specs.declared.entry.Entry.{Entry}
 use Rattle.qos_main.specs.declared.entry.Entry.TheVariants.{Arrive, Dequeue}
-use Rattle.qos_main.specs.Schedule.{at_start, after_entry, schedule_of, arrivals_of, dequeues_in}
+use Rattle.qos_main.specs.Schedule.{Schedule, at_start, after_entry, schedule_of, arrivals_of, dequeues_in}
 
 pub schedule_of-push : (shaper : Shaper) (journal : List Entry) (entry : Entry) → schedule_of shaper (journal ++ entry ∷ []) ≡ after_entry (schedule_of shaper journal) entry
 unfolding schedule_of
@@ -35,3 +38,11 @@ pub dequeues_in-le : (journal : List Entry) → dequeues_in journal ≤ length j
 dequeues_in-le [] = omega arith
 dequeues_in-le (Arrive p ∷ journal) = omega (arith, dequeues_in-le journal)
 dequeues_in-le (Dequeue now room ∷ journal) = omega (arith, dequeues_in-le journal)
+
+-- an arrival sends nothing
+pub sends-arrive : (shaper : Shaper) (journal : List Entry) (p : Pkt) → (schedule_of shaper (journal ++ Arrive p ∷ [])).sends ≡ (schedule_of shaper journal).sends
+sends-arrive shaper journal p =
+    let s = schedule_of shaper journal in
+    let Same : Schedule → Type 0 = λ t. t.sends ≡ s.sends in
+    ap (λ (t : Schedule). t.sends) (schedule_of-push shaper journal (Arrive p))
+    ∙ cond_both (ltb (length s.port.queue) QUEUE_SIZE) (record s { port = after_arrival p s.port }) (record s { drops = s.drops ++ p ∷ [] }) Same (λ _. refl) (λ _. refl)

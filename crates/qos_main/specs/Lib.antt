@@ -10,3 +10,4 @@ pub mod Laws
 pub mod PortRun
 pub mod Mbuf
 pub mod Sender
+pub mod Egress

@@ -8,27 +8,27 @@ use Rattle.qos_io.specs.declared.sink.PutFault.TheVariants.{Failed}
 use Rattle.qos_main.specs.declared.send.Sender.{Sender}
 use Rattle.qos_main.specs.Output.{Target, IsWhole, IsCut}
 
-module _ {K : Type 0} {G : Ghosts K} where
-  -- how its sends are written
-  abbrev pub target_of : Sender K G → (ℕ → List ℕ) → Target
-  target_of s body = record { origin = s.origin; line = s.line; body = body }
+-- how a sender's sends are written
+abbrev pub target_of : {K : Type 0} → Sender K → (ℕ → List ℕ) → Target
+target_of s body = record { origin = s.origin; line = s.line; body = body }
 
+module _ {K : Type 0} (G : Ghosts K) where
   -- Its output stands where these sends have brought it, where these are the bodies of the records by their places: a
   -- sink that tells what it holds has all of it, or was cut.
-  pub record HasWritten (body : ℕ → List ℕ) (sends : List (Departure Pkt)) (s : Sender K G) : Type 0 where
+  pub record HasWritten (body : ℕ → List ℕ) (sends : List (Departure Pkt)) (s : Sender K) : Type 0 where
     pub told : (k : K) (text : List ℕ) → s.sink ≡ Some k → G.contents k ≡ Some text
         → MatchOption s.fault (IsWhole (target_of s body) sends s.sent text) (λ _. IsCut (target_of s body) sends s.sent text)
     -- nothing is written where there is no sink
     pub none : s.sink ≡ None → (s.sent ≡ 0) × IsSome s.fault
 
   -- no put has failed, and none will
-  pub record IsFine (s : Sender K G) : Type 0 where
+  pub record IsFine (s : Sender K) : Type 0 where
     pub there : IsSome s.sink
     pub sure : IfSome s.sink G.IsSure
     pub none_failed : s.fault ≡ Some Failed → ⊥
 
   -- what no call of it changes
-  pub record StaysSender (before after : Sender K G) : Type 0 where
+  pub record StaysSender (before after : Sender K) : Type 0 where
     pub origin : after.origin ≡ before.origin
     pub line : after.line ≡ before.line
     pub name : option_map G.name after.sink ≡ option_map G.name before.sink

@@ -1,5 +1,6 @@
 //! A packet in its slot.
 ghost use Rattle.std.specs.Prelude.{◌≡◌, ◌≤◌, length};
+ghost use Rattle.qos_main.specs.declared.limits.TheConstants.{SLOT_BYTES};
 
 use crate::limits::SLOT_BYTES;
 use qos_base::{Parcel, Pkt};

@@ -63,7 +63,8 @@ impl<T: Parcel> PortRun<T> {
     pub fn aim(&mut self, to: u64)
         requires to { to ≤ 2 ^ 57 }
         requires there { self.old.pacer.aim ≤ self.old.pacer.clock }
-        ensures { self.new ≡ record self.old { pacer = after_aim to self.old.pacer } }
+        ensures aimed { self.new ≡ record self.old { pacer = after_aim to self.old.pacer } }
+        ensures quantum { self.old.pacer.quantum ≡ self.old.plan.quantum }
     {
         self.pacer.aim(to);
     }
@@ -72,6 +73,7 @@ impl<T: Parcel> PortRun<T> {
     pub fn next(&mut self) -> Option<u64>
         ensures moment { result ≡ next_in self.old.pacer (length (schedule self.old).port.queue) (schedule self.old).port.time }
         ensures clock { self.new ≡ record self.old { pacer = record self.old.pacer { clock = unwrap_or result (max self.old.pacer.clock self.old.pacer.aim) } } }
+        ensures went { self.old.pacer.went ≡ (schedule self.old).went }
     {
         self.pacer.next(self.sched.queued(), self.sched.time())
     }
@@ -90,6 +92,13 @@ impl<T: Parcel> PortRun<T> {
         self.pacer.clock()
     }
 
+    /// How long the port is dequeued after the last arrival, in byte times of the line.
+    pub fn drain_time(&self) -> u64
+        ensures { result ≡ self.now.plan.drain }
+    {
+        self.plan.drain
+    }
+
     /// Dequeues at a moment, at most 2^57 byte times. What is sent goes into `out`, which is empty and has
     /// room for one dequeue. `NoMemory`: the journal was refused memory, and nothing has changed.
     pub fn dequeue(&mut self, now: u64, out: &mut Vec<Departure<T>>) -> Result<(), NoMemory>
@@ -98,6 +107,7 @@ impl<T: Parcel> PortRun<T> {
         requires room { self.old.plan.burst ≤ vec_capacity out.old }
         ensures dequeued { OnOk result (HasDequeued T.packet now self.old self.new out.new.items) }
         ensures refused { OnErr result ((self.new ≡ self.old) × (out.new.items ≡ [])) }
+        ensures few { length (schedule self.new).sends ≤ MAX_RECORDS }
         ensures capacity { vec_capacity out.new ≡ vec_capacity out.old }
     {
         dequeues_keep::<T>();

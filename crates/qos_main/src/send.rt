@@ -38,21 +38,25 @@ impl<K: Sink> Sender<K> {
     ///
     /// `origin` is in nanoseconds, and `line` in bytes per second.
     pub fn begin(sink: Option<K>, origin: u64, line: u64) -> Sender<K>
-        ensures written { ((k : K) (held : List ℕ) → sink ≡ Some k → K.contents k ≡ Some held → held ≡ []) → (body : ℕ → List ℕ) → HasWritten body [] result }
+        ensures written { ((k : K) (held : List ℕ) → sink ≡ Some k → K.contents k ≡ Some held → held ≡ []) → (body : ℕ → List ℕ) → HasWritten K.Sink body [] result }
         ensures numbers { (result.sent ≡ 0) × (result.unwritten ≡ 0) }
         ensures stamps { (result.origin ≡ origin) × (result.line ≡ line) }
         ensures name { option_map K.name result.sink ≡ option_map K.name sink }
-        ensures fine { IsSome sink → IfSome sink K.IsSure → IsFine result }
+        ensures fine { IsSome sink → IfSome sink K.IsSure → IsFine K.Sink result }
     {
-        let (sink, fault) = match sink {
-            None => (None, Some(PutFault::Failed)),
-            Some(mut sink) => {
-                let fault = put_header(&mut sink).err();
-                (Some(sink), fault)
-            }
+        let Some(mut sink) = sink else {
+            return Sender {
+                sink: None,
+                origin,
+                line,
+                sent: 0,
+                unwritten: 0,
+                fault: Some(PutFault::Failed),
+            };
         };
+        let fault = put_header(&mut sink).err();
         Sender {
-            sink,
+            sink: Some(sink),
             origin,
             line,
             sent: 0,
@@ -66,18 +70,19 @@ impl<K: Sink> Sender<K> {
         requires line { IsLineRate self.old.line }
         requires few { self.old.sent + self.old.unwritten < 2 ^ 62 }
         ensures written { (body : ℕ → List ℕ) (sends : List (Departure Pkt)) → IsBodyIn body departure.now.parcel
-            → HasWritten body sends self.old → HasWritten body (sends ++ seen departure.now ∷ []) self.new }
+            → HasWritten K.Sink body sends self.old → HasWritten K.Sink body (sends ++ seen departure.now ∷ []) self.new }
         ensures counted { self.new.sent + self.new.unwritten ≡ self.old.sent + self.old.unwritten + 1 }
-        ensures stays { StaysSender self.old self.new }
+        ensures stays { StaysSender K.Sink self.old self.new }
     {
-        let put = match (&mut self.sink, self.fault) {
-            (Some(sink), None) => put_send(sink, self.origin, self.line, departure),
-            _ => {
-                self.unwritten += 1;
-                return;
-            }
+        if self.fault.is_some() {
+            self.unwritten += 1;
+            return;
+        }
+        let Some(sink) = &mut self.sink else {
+            self.unwritten += 1;
+            return;
         };
-        match put {
+        match put_send(sink, self.origin, self.line, departure) {
             Ok(()) => self.sent += 1,
             Err(fault) => {
                 self.fault = Some(fault);
@@ -91,9 +96,9 @@ impl<K: Sink> Sender<K> {
         requires line { IsLineRate self.old.line }
         requires few { self.old.sent + self.old.unwritten + length sends.now < 2 ^ 62 }
         ensures written { (body : ℕ → List ℕ) (before : List (Departure Pkt)) → All (λ (d : Departure Mbuf). IsBodyIn body d.parcel) sends.now
-            → HasWritten body before self.old → HasWritten body (before ++ map seen sends.now) self.new }
+            → HasWritten K.Sink body before self.old → HasWritten K.Sink body (before ++ map seen sends.now) self.new }
         ensures counted { self.new.sent + self.new.unwritten ≡ self.old.sent + self.old.unwritten + length sends.now }
-        ensures stays { StaysSender self.old self.new }
+        ensures stays { StaysSender K.Sink self.old self.new }
     {
         for departure in sends {
             self.send(departure);

@@ -1,5 +1,6 @@
 //! Slots for packets, which are used again.
 ghost use Rattle.std.specs.Prelude.{◌≡◌, [], IfOk, length, vec_capacity};
+ghost use Rattle.qos_main.specs.declared.limits.TheConstants.{SLOT_BYTES};
 
 use crate::limits::SLOT_BYTES;
 use crate::mbuf::Mbuf;

@@ -5,7 +5,7 @@ use Rattle.qos_main.specs.declared.entry.Entry.{Entry}
 use Rattle.qos_main.specs.declared.entry.Entry.TheVariants.{Dequeue}
 use Rattle.qos_main.specs.PortRun.{IsSound}
 use Rattle.qos_main.proofs.Schedules.{dequeues_in-le}
-use Rattle.qos_main.proofs.Runs.{time-fits, IsSound-dequeued, HasDequeued-made}
+use Rattle.qos_main.proofs.Runs.{time-fits, sends-few, IsSound-dequeued, HasDequeued-made}
 use Rattle.qos_main.proofs.port_run.PortRun.dequeue.Goals as goal
 
 pub dequeue-sent-requires-clause-time : goal.dequeue-sent-requires-clause-time
@@ -36,3 +36,6 @@ returns-clause-dequeued g c =
     let sends = d.sends ∙ ap (λ (ds : List (Departure g.row.T.Denot)). ds ++ (dequeue g.T.Parcel.packet c.args.now i.plan.burst i.sched).sends) c.requires.empty in
     rw (← c.self.view_is)
     (HasDequeued-made g.T.Parcel.packet i.plan i.sched i.pacer i.journal.items i.tally c.args.now _ _ c.dequeue-sent.result _ _ c.self.invariant laws d.state d.count c.went.ensures (pushed g c) sends)
+
+pub returns-clause-few : goal.returns-clause-few
+returns-clause-few g c = sends-few g.T.Parcel.packet _ _ _ _ _ (invariant_of-self-2 g c)
