@@ -10,3 +10,4 @@ pub mod Advances
 pub mod Egresses
 pub mod Courses
 pub mod Arrivals
+pub mod Frames

@@ -11,3 +11,5 @@ pub mod PortRun
 pub mod Mbuf
 pub mod Sender
 pub mod Egress
+pub mod Receiver
+pub mod Halts

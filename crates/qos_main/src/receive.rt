@@ -1,0 +1,273 @@
+//! Receive: one record after another, each into a slot of its own or lost for a reason.
+ghost use Rattle.std.specs.Prelude.{◌≡◌, ◌≢◌, ◌≤◌, ◌⊎◌, ◌∷◌, [], ℕ, List, Option, Some, None, OnOk, IfOk, IfErr, IfSome, IfNone, IsErrOf, length, take};
+ghost use Rattle.std.specs.Option.{option_map};
+ghost use Rattle.qos_io.specs.Fault.{Counts};
+ghost use Rattle.qos_pcap.specs.Format.{Record};
+ghost use Rattle.qos_pcap.specs.Heads.{recorded};
+ghost use Rattle.qos_pcap.specs.Given.{StillGives, NextStamp, HasGiven, HasPassedBody, given, limit_of, source_of, untaken};
+ghost use Rattle.qos_main.specs.Fate.{packet_of};
+ghost use Rattle.qos_main.specs.Mbuf.{frame_of};
+ghost use Rattle.qos_main.specs.declared.receive.Halt.{Halt};
+ghost use Rattle.qos_main.specs.Receiver.{IsReadFault, IsReceived, IsPacketOf};
+ghost use Rattle.qos_main.specs.Halts.{IfFault};
+ghost use Rattle.qos_io.specs.Bytes.{bytes_in};
+ghost use Rattle.qos_io.specs.Shelves.{ChangesOnly};
+ghost use Rattle.qos_pcap.specs.Reads.{Reads};
+ghost use Rattle.qos_main.specs.Receiver.{IsReading, IsFine, ToCome, IsFresh, HasOrigin};
+
+use crate::fate::{Fate, packet};
+use crate::limits::{MAX_RECORDS, SLOT_BYTES};
+use crate::mbuf::Mbuf;
+use crate::slots::Slots;
+use qos_base::{NoMemory, Reason};
+use qos_io::{PutFault, Shelf, Source};
+use qos_pcap::{Capture, Head, PcapFault, Stop, open_capture};
+
+/// What was received.
+#[derive(Drop)]
+pub enum Received {
+    /// A packet that is admitted, in its slot.
+    Admitted(Mbuf),
+    /// A record that is lost, and why.
+    Lost(Reason),
+    /// Nothing more: the input has come to its stop.
+    Stopped,
+}
+
+/// An input that is received, one record after another.
+#[derive(Drop)]
+pub struct Receiver<S: Source> {
+    /// Its capture; None where it could not be opened.
+    pub capture: Option<Capture<S>>,
+    /// The head of the next record; None once it has stopped.
+    pub head: Option<Head>,
+    /// How it stopped, once it has.
+    pub stopped: Stop,
+    /// The stamp of its first head in nanoseconds, or 0 where there is none.
+    pub origin: u64,
+    /// How many whole records were received.
+    pub read: u64,
+    /// How many of them are too long for a slot.
+    pub too_long: u64,
+    /// How many of them are longer on the line than the port's mtu.
+    pub oversize: u64,
+}
+
+// Why a record was not received.
+enum Halt {
+    Memory,
+    Fault(PcapFault),
+}
+
+// Moves the body of the last head to the front of a slot.
+fn body_into_front<S: Source>(
+    capture: &mut Capture<S>,
+    slot: &mut [u8],
+    cap: usize,
+) -> Result<(), PcapFault>
+    requires next { option_map (λ head. head.cap) (untaken capture.old) ≡ Some cap }
+    requires fits { cap ≤ length slot.old }
+    ensures passed { OnOk result (HasPassedBody capture.old capture.new) }
+    ensures body { OnOk result ((head : Head) (records : List Record) (stop : Stop) → untaken capture.old ≡ Some head → StillGives S.remaining capture.old records stop
+        → (rest : List Record) × (records ≡ recorded head (take cap slot.new) ∷ rest) × StillGives S.remaining capture.new rest stop) }
+    ensures fault { IfErr result (λ fault. fault ≢ PcapFault.Read → (records : List Record) (stop : Stop)
+        → StillGives S.remaining capture.old records stop → (records ≡ []) × (stop ≡ Stop.Fault fault)) }
+    ensures limit { limit_of capture.new ≡ limit_of capture.old }
+    ensures faults { Counts S.faults S.IsSure (source_of capture.old) (source_of capture.new) (IsErrOf result PcapFault.Read) }
+{
+    capture.body_into(&mut slot[..cap])
+}
+
+// Moves the body of an admitted record into its slot.
+fn keep<S: Source>(
+    capture: &mut Capture<S>,
+    head: &Head,
+    mut bytes: Vec<u8>,
+) -> Result<Mbuf, PcapFault>
+    requires next { untaken capture.old ≡ Some head.now }
+    requires slot { length bytes.items ≡ SLOT_BYTES }
+    requires fits { head.now.cap ≤ SLOT_BYTES }
+    requires captured { head.now.cap ≤ head.now.wire }
+    ensures passed { OnOk result (HasPassedBody capture.old capture.new) }
+    ensures packet { IfOk result (λ m. (body : List ℕ) → m.pkt ≡ packet_of head.now.index (recorded head.now body)) }
+    ensures body { IfOk result (λ m. (records : List Record) (stop : Stop) → StillGives S.remaining capture.old records stop
+        → (rest : List Record) × (records ≡ recorded head.now (frame_of m) ∷ rest) × StillGives S.remaining capture.new rest stop) }
+    ensures fault { IfErr result (λ fault. fault ≢ PcapFault.Read → (records : List Record) (stop : Stop)
+        → StillGives S.remaining capture.old records stop → (records ≡ []) × (stop ≡ Stop.Fault fault)) }
+    ensures limit { limit_of capture.new ≡ limit_of capture.old }
+    ensures faults { Counts S.faults S.IsSure (source_of capture.old) (source_of capture.new) (IsErrOf result PcapFault.Read) }
+{
+    body_into_front(capture, &mut bytes, head.cap as usize)?;
+    Ok(Mbuf {
+        bytes,
+        pkt: packet(head),
+    })
+}
+
+// The head of the next record, or how the capture stops.
+fn next_of<S: Source>(capture: &mut Capture<S>) -> (Option<Head>, Stop)
+    requires { untaken capture.old ≡ None }
+    ensures head { IfSome result.0 (HasGiven capture.old capture.new) }
+    ensures keeps { IfSome result.0 (λ head. (records : List Record) (stop : Stop) → StillGives S.remaining capture.old records stop → StillGives S.remaining capture.new records stop) }
+    ensures stops { IfNone result.0 ((records : List Record) (stop : Stop) → StillGives S.remaining capture.old records stop → IsReadFault result.1 ⊎ ((records ≡ []) × (result.1 ≡ stop))) }
+    ensures stamp { (stamp : Option ℕ) → NextStamp S.remaining capture.old stamp → IsReadFault result.1 ⊎ (option_map (λ head. head.stamp) result.0 ≡ stamp) }
+    ensures goes_on { IfSome result.0 (λ head. IsReadFault result.1 → ⊥) }
+    ensures opened { result.1 ≢ Stop.NotOpened }
+    ensures limit { limit_of capture.new ≡ limit_of capture.old }
+    ensures faults { Counts S.faults S.IsSure (source_of capture.old) (source_of capture.new) (IsReadFault result.1) }
+{
+    match capture.next_head() {
+        Ok(Some(head)) => (Some(head), Stop::End),
+        Ok(None) => (None, Stop::End),
+        Err(fault) => (None, Stop::Fault(fault)),
+    }
+}
+
+// Receives the record of this head, which is the last that the capture gave.
+fn receive<S: Source>(
+    capture: &mut Capture<S>,
+    head: &Head,
+    slots: &mut Slots,
+) -> Result<Received, Halt>
+    requires next { untaken capture.old ≡ Some head.now }
+    requires captured { head.now.cap ≤ head.now.wire }
+    ensures passed { OnOk result (HasPassedBody capture.old capture.new) }
+    ensures received { IfOk result (λ received. (records : List Record) (stop : Stop) → StillGives S.remaining capture.old records stop
+        → (r : Record) × (rest : List Record) × (records ≡ r ∷ rest) × IsReceived head.now.index r received × StillGives S.remaining capture.new rest stop) }
+    ensures packet { IfOk result (IsPacketOf head.now) }
+    ensures halted { IfErr result (IfFault (λ fault. (records : List Record) (stop : Stop) → StillGives S.remaining capture.old records stop
+        → IsReadFault (Stop.Fault fault) ⊎ ((records ≡ []) × (Stop.Fault fault ≡ stop)))) }
+    ensures limit { limit_of capture.new ≡ limit_of capture.old }
+    ensures given { OnOk result (given capture.new ≡ given capture.old) }
+    ensures faults { Counts S.faults S.IsSure (source_of capture.old) (source_of capture.new) (result ≡ Err (Halt.Fault PcapFault.Read)) }
+{
+    match Fate::of(head) {
+        Fate::Lost(reason) => match capture.skip_body() {
+            Ok(()) => Ok(Received::Lost(reason)),
+            Err(fault) => Err(Halt::Fault(fault)),
+        },
+        Fate::Admitted => {
+            let Ok(bytes) = slots.take() else {
+                return Err(Halt::Memory);
+            };
+            match keep(capture, head, bytes) {
+                Ok(mbuf) => Ok(Received::Admitted(mbuf)),
+                Err(fault) => Err(Halt::Fault(fault)),
+            }
+        }
+    }
+}
+
+impl<S: Source> Receiver<S> {
+    ghost use Rattle.std.specs.Prelude.{◌<◌, ◌+◌, ◌^◌};
+    ghost use Rattle.qos_main.specs.Receiver.{Gives, Counted, too_long_in, oversize_in};
+
+    /// Receives the next record. A packet that is admitted comes in a slot of its own; a record that is not keeps
+    /// none and is passed over.
+    ///
+    /// `NoMemory`: a slot was refused memory.
+    pub fn turn(&mut self, slots: &mut Slots) -> Result<Received, NoMemory>
+        requires { IsReading S.Source self.old }
+        ensures reading { OnOk result (IsReading S.Source self.new) }
+        ensures received { IfOk result (λ received. (records : List Record) (stop : Stop) → ToCome S.Source self.old records stop → Gives S.Source self.new received self.old.read records stop) }
+        ensures counted { IfOk result (Counted self.old self.new) }
+        ensures origin { self.new.origin ≡ self.old.origin }
+        ensures fine { IsFine S.Source self.old → IsFine S.Source self.new }
+    {
+        let Some(head) = self.head else {
+            return Ok(Received::Stopped);
+        };
+        let Some(capture) = &mut self.capture else {
+            return Ok(Received::Stopped);
+        };
+        match receive(capture, &head, slots) {
+            Err(Halt::Memory) => Err(NoMemory),
+            Err(Halt::Fault(fault)) => {
+                self.head = None;
+                self.stopped = Stop::Fault(fault);
+                Ok(Received::Stopped)
+            }
+            Ok(received) => {
+                (self.head, self.stopped) = next_of(capture);
+                self.count(&received);
+                Ok(received)
+            }
+        }
+    }
+
+    // Counts a record that was received.
+    fn count(&mut self, received: &Received)
+        requires read { self.old.read < 2 ^ 32 }
+        requires lost { self.old.too_long + self.old.oversize ≤ self.old.read }
+        ensures { self.new ≡ record self.old { read = self.old.read + 1; too_long = self.old.too_long + too_long_in received.now; oversize = self.old.oversize + oversize_in received.now } }
+    {
+        self.read += 1;
+        match received {
+            Received::Lost(Reason::TooLong) => self.too_long += 1,
+            Received::Lost(Reason::Oversize) => self.oversize += 1,
+            _ => {}
+        }
+    }
+}
+
+// An input that stops before its first head.
+fn stopped<S: Source>(stopped: Stop) -> Receiver<S>
+    ensures { result ≡ record { capture = None; head = None; stopped = stopped; origin = 0; read = 0; too_long = 0; oversize = 0 } }
+{
+    Receiver {
+        capture: None,
+        head: None,
+        stopped,
+        origin: 0,
+        read: 0,
+        too_long: 0,
+        oversize: 0,
+    }
+}
+
+// Reads the header of a capture and its first head.
+fn begin<S: Source>(source: S) -> Receiver<S>
+    ensures told { (bytes : List ℕ) (records : List Record) (stop : Stop) → S.remaining source ≡ Some bytes → Reads bytes MAX_RECORDS records stop → ToCome S.Source result records stop }
+    ensures origin { (bytes : List ℕ) → S.remaining source ≡ Some bytes → HasOrigin bytes result }
+    ensures reading { IsReading S.Source result }
+    ensures numbers { IsFresh result }
+    ensures opened { result.stopped ≢ Stop.NotOpened }
+    ensures fine { S.IsSure source → IsFine S.Source result }
+{
+    let mut capture = match open_capture(source, MAX_RECORDS) {
+        Ok(capture) => capture,
+        Err(fault) => return stopped(Stop::Fault(fault)),
+    };
+    let (head, stopped) = next_of(&mut capture);
+    Receiver {
+        capture: Some(capture),
+        head,
+        stopped,
+        origin: head.map_or(0, |head| head.stamp),
+        read: 0,
+        too_long: 0,
+        oversize: 0,
+    }
+}
+
+/// Opens the input of a name, and reads the header of its capture and its first head. At most 2,000,000,000
+/// records are read of it.
+///
+/// `NoMemory`: the shelf was refused memory.
+pub fn open_input<H: Shelf>(shelf: &mut H, name: &str) -> Result<Receiver<H::In>, NoMemory>
+    ensures told { H.Tells shelf.old → IfOk result (λ rx. (records : List Record) (stop : Stop) → Reads (bytes_in (H.file shelf.old name.now)) MAX_RECORDS records stop → ToCome H.In.Source rx records stop) }
+    ensures origin { H.Tells shelf.old → IfOk result (λ rx. HasOrigin (bytes_in (H.file shelf.old name.now)) rx) }
+    ensures absent { H.Tells shelf.old → H.file shelf.old name.now ≡ None → (H.IsSureToRead shelf.old name.now → ⊥) → IfOk result (λ rx. (rx.head ≡ None) × (rx.stopped ≡ Stop.NotOpened)) }
+    ensures reading { IfOk result (IsReading H.In.Source) }
+    ensures numbers { IfOk result IsFresh }
+    ensures fine { H.IsSureToRead shelf.old name.now → IfOk result (IsFine H.In.Source) }
+    ensures others { ChangesOnly H.Shelf None shelf.old shelf.new }
+    ensures closed { H.Tells shelf.old → H.closed shelf.new ≡ H.closed shelf.old }
+    ensures never_falls { H.faults shelf.old ≤ H.faults shelf.new }
+{
+    match shelf.open_in(name) {
+        Ok(source) => Ok(begin(source)),
+        Err(PutFault::Failed) => Ok(stopped(Stop::NotOpened)),
+        Err(PutFault::NoMemory) => Err(NoMemory),
+    }
+}
