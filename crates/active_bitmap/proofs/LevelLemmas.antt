@@ -1,11 +1,11 @@
 -- The bits and their summary: how a change keeps them sound, and what a search of both levels finds.
-use Rattle.std.proofs.Common.{◌≡◌, ◌≢◌, ℕ, ◌+◌, ◌*◌, ◌/◌, ◌<◌, ◌≤◌, Bool, true, false, true≢false, List, length, take, drop, replicate, get_or, set, refl, sym, ap, ◌∙◌, arith, inl, inr}
-use Rattle.std.specs.Prelude.{Option, Some, None}
+use Rattle.std.proofs.Common.{◌≡◌, ◌≢◌, ℕ, ◌+◌, ◌*◌, ◌/◌, ◌<◌, ◌≤◌, Bool, true, false, true≢false, List, length, take, drop, replicate, set, refl, sym, ap, ◌∙◌, arith, inl, inr}
+use Rattle.std.specs.Prelude.{Some, None}
 use Rattle.std.specs.Int.{div_ceil}
 use Rattle.std.specs.List.{list_any}
 use Rattle.std.proofs.lemmas.Bool.{cases_lt, cases_eq}
 use Rattle.std.proofs.Math.Seq.{take-set-lt}
-use Rattle.std.proofs.lemmas.List.{get_or_past, get_or_default, get_or-set_same, get_or-set_other, get_or-take, get_or-drop, get_or-replicate, length-set, length-take, length-drop, length-take-le, length-replicate, same_lists}
+use Rattle.std.proofs.lemmas.List.{get_or_past, get_or-set_same, get_or-set_other, get_or-take, get_or-drop, get_or-replicate, length-set, length-take, length-drop, length-take-le, length-replicate, same_lists}
 use Rattle.active_bitmap.specs.NextActive.{is_set, next_active}
 use Rattle.active_bitmap.specs.Words.{has_set, AllClear, IsFirstSet, IsNextSet}
 use Rattle.active_bitmap.specs.Levels.{IsSound}

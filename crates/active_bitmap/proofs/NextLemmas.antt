@@ -1,6 +1,6 @@
 -- The next set bit, by the bits ahead of a place.
-use Rattle.std.proofs.Common.{◌≡◌, ℕ, ◌+◌, ◌-◌, ◌*◌, ◌%◌, ◌<◌, ◌≤◌, Bool, true, false, true≢false, cond, List, length, ◌++◌, take, drop, get_or, ltb, refl, sym, ap, subst, ◌∙◌, arith, inl, inr, lt-ltb, ltb-true}
-use Rattle.std.specs.Prelude.{Option, Some, None, option_map, position}
+use Rattle.std.proofs.Common.{◌≡◌, ℕ, ◌+◌, ◌-◌, ◌*◌, ◌%◌, ◌<◌, ◌≤◌, Bool, true, false, true≢false, cond, List, length, take, drop, get_or, ltb, refl, sym, ap, subst, ◌∙◌, arith, inl, inr, lt-ltb, ltb-true}
+use Rattle.std.specs.Prelude.{Some, None, option_map}
 use Rattle.std.specs.List.{position_or_len}
 use Rattle.std.proofs.Math.Nat.{mod-eq_of_lt, add-mul-mod_self_left}
 use Rattle.std.proofs.lemmas.Bool.{cases_lt, ltb-false}

@@ -1,6 +1,6 @@
 -- The bits of words, one by one.
-use Rattle.std.proofs.Common.{◌≡◌, ◌≢◌, ℕ, ◌+◌, ◌-◌, ◌*◌, ◌/◌, ◌%◌, ◌^◌, ◌<◌, ◌≤◌, Bool, true, false, cond, List, length, map, replicate, get_or, set, take, drop, min, eqb, refl, true≢false, sym, ap, subst, ◌∙◌, arith, inl, inr, w64, bit_and, bit_or, eq-eqb, ne_eqb}
-use Rattle.std.specs.Prelude.{not, Option, Some, None}
+use Rattle.std.proofs.Common.{◌≡◌, ◌≢◌, ℕ, ◌+◌, ◌-◌, ◌*◌, ◌/◌, ◌%◌, ◌^◌, ◌<◌, ◌≤◌, Bool, true, false, List, length, replicate, get_or, set, take, drop, min, eqb, refl, true≢false, sym, ap, ◌∙◌, arith, inl, inr, w64, bit_and, bit_or, eq-eqb, ne_eqb}
+use Rattle.std.specs.Prelude.{not, Some}
 use Rattle.std.proofs.lemmas.Nat.{and_le_l}
 use Rattle.std.specs.Int.{bit_at, bit_not, trailing_zeros}
 use Rattle.std.proofs.lemmas.Bool.{cases_lt, cases_eq}
@@ -67,7 +67,6 @@ module _ (words : List ℕ) (k word : ℕ) (value : Bool) (within : k < 64 * len
 
 -- a bit set in its word, and a bit cleared there
 module _ (words : List ℕ) (k : ℕ) (within : k < 64 * length words) where
-
   pub set_in_word : bits_of (set words (k / 64) (bit_or (get_or words (k / 64) 0) (1 * 2 ^ (k % 64) % 2 ^ 64))) ≡ set (bits_of words) k true
   set_in_word =
       let low : k % 64 < 64 = omega arith in

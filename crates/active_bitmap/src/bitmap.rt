@@ -80,6 +80,7 @@ impl ActiveBitmap {
         requires { pos < length self.now }
         ensures nearest { result ≡ next_active pos self.now }
         ensures probes { steps.new ≤ steps.old + MAX_PROBES }
+        ensures counted { steps.old < steps.new }
     {
         let pos = pos as usize;
         if let Some(bit) = self.bits.probe(pos, steps) {

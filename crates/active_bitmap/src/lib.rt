@@ -12,3 +12,5 @@ mod words;
 
 pub use bitmap::{ActiveBitmap, MAX_BITS, MAX_PROBES};
 
+#[cfg(test)]
+mod tests;

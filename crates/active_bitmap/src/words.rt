@@ -74,12 +74,7 @@ impl Words {
     }
 
     /// The first set bit from `from` up to word `end`. One probe a word.
-    pub fn first<L: Ledger>(
-        &self,
-        from: usize,
-        end: usize,
-        steps: &mut Steps<L>,
-    ) -> Option<usize>
+    pub fn first<L: Ledger>(&self, from: usize, end: usize, steps: &mut Steps<L>) -> Option<usize>
         requires from { from ≤ 64 * end }
         requires end { 64 * end ≤ length self.now }
         requires small { end ≤ 1024 }
@@ -100,7 +95,8 @@ impl Words {
         requires within { bit < length self.now }
         requires small { length self.now ≤ 1024 }
         ensures next { IsNextSet self.now bit result }
-        ensures counted { 64 * steps.new ≤ 64 * steps.old + length self.now + 64 }
+        ensures counted { steps.old ≤ steps.new }
+        ensures probes { 64 * steps.new ≤ 64 * steps.old + length self.now + 64 }
     {
         let after = self.first(bit + 1, self.len(), steps);
         if after.is_some() {

@@ -1,5 +1,4 @@
 use Rattle.std.proofs.Common.{◌≤◌, ◌*◌, take, false, ap, ◌∙◌, arith}
-use Rattle.std.specs.Int.{div_ceil}
 use Rattle.std.proofs.lemmas.List.{take-replicate}
 use Rattle.active_bitmap.proofs.LevelLemmas.{new-sound}
 use Rattle.active_bitmap.proofs.bitmap.ActiveBitmap.new.Goals as goal

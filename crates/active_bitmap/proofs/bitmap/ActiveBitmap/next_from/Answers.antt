@@ -1,6 +1,4 @@
 use Rattle.std.proofs.Common.{◌+◌, ◌<◌, ◌*◌, ◌/◌, length, take, sym, subst, arith, ◌∙◌}
-use Rattle.std.specs.Prelude.{Some, None}
-use Rattle.active_bitmap.specs.NextActive.{next_active}
 use Rattle.active_bitmap.proofs.LevelLemmas.{found-here, found-there, found-none, not_empty, word_within}
 use Rattle.active_bitmap.proofs.bitmap.ActiveBitmap.next_from.Goals as goal
 

@@ -1,4 +1,4 @@
-use Rattle.std.proofs.Common.{◌≡◌, ◌*◌, ◌<◌, ◌+◌, ◌/◌, ◌^◌, length, subst, get_or, ap, ◌∙◌, arith, rules}
+use Rattle.std.proofs.Common.{◌≡◌, ◌<◌, ◌/◌, ◌^◌, length, get_or, ap, ◌∙◌, arith, rules}
 use Rattle.std.proofs.lemmas.List.{get_or_default}
 use Rattle.active_bitmap.proofs.WordLemmas.{length-bits_of, probe-none, probe-some}
 use Rattle.active_bitmap.proofs.words.Words.probe.Goals as goal
