@@ -8,7 +8,7 @@ use Rattle.std.proofs.lemmas.List.{length-take, length-drop, length-append, get_
 use Rattle.std.proofs.lemmas.List.Sums.{position_or_len_is, passes_at_first, fails_before_first}
 use Rattle.active_bitmap.specs.NextActive.{is_set, distance, round_from, next_active}
 use Rattle.active_bitmap.specs.Words.{AllClear}
-use Rattle.active_bitmap.specs.Laws.{NextIsNearest, NoneIsAllClear}
+use Rattle.active_bitmap.specs.Laws.{IsNearest, NextIsNearest, NoneIsAllClear}
 
 -- once round and a part is that part
 once_round : (n k : ℕ) → k < n → (k + n) % n ≡ k
@@ -128,17 +128,20 @@ module _ (bits : List Bool) (pos : ℕ) (within : pos < length bits) where
 
   found : (b : Bool) → ltb (position_or_len (λ b. b) round) (length round) ≡ b → (bit : ℕ)
       → option_map (λ ahead. (pos + ahead) % size) (cond b (Some (position_or_len (λ b. b) round)) None) ≡ Some bit
-      → (is_set bits bit ≡ true) × ((other : ℕ) → is_set bits other ≡ true → distance size pos bit ≤ distance size pos other)
+      → IsNearest bits pos bit
   found true inside bit is =
       let j = position_or_len (λ b. b) round in
       let small : j < length round = ltb-true j (length round) inside in
       let lands : (pos + j) % size ≡ bit = cc in
       let back = distance-back j (omega (arith, length-round)) in
       let far : distance size pos bit ≡ j = ap (distance size pos) (sym lands) ∙ back.1 in
-      let there = round-distance bit (rw (← lands) back.0) in (
-        sym there.1 ∙ ap (λ i. get_or round i false) far ∙ passes_at_first (λ b. b) round false small,
-        λ other set_there. omega (arith, far, first_is_least other set_there),
-      )
+      let high : bit < size = rw (← lands) back.0 in
+      let there = round-distance bit high in
+      record {
+        within = high;
+        set_itself = sym there.1 ∙ ap (λ i. get_or round i false) far ∙ passes_at_first (λ b. b) round false small;
+        nearest = λ other set_there. omega (arith, far, first_is_least other set_there);
+      }
   found false inside bit is = absurd (cc)
 
   none_found : (b : Bool) → ltb (position_or_len (λ b. b) round) (length round) ≡ b

@@ -73,13 +73,15 @@ impl Words {
         Some(from / 64 * 64 + left.trailing_zeros() as usize)
     }
 
-    /// The first set bit from `from` up to word `end`. One probe a word.
+    /// The first set bit from `from` up to word `end`, which is not looked at. One probe a word.
     pub fn first<L: Ledger>(&self, from: usize, end: usize, steps: &mut Steps<L>) -> Option<usize>
         requires from { from ≤ 64 * end }
         requires end { 64 * end ≤ length self.now }
         requires small { end ≤ 1024 }
         ensures first { IsFirstSet self.now from (64 * end) result }
-        ensures counted { MatchOption result (steps.new ≡ steps.old + (end - from / 64)) (λ bit. steps.new ≡ steps.old + (bit / 64 + 1 - from / 64)) }
+        ensures counted { MatchOption result
+            (steps.new ≡ steps.old + (end - from / 64))
+            (λ bit. steps.new ≡ steps.old + (bit / 64 + 1 - from / 64)) }
     {
         for word in from / 64..end {
             let found = self.probe(from.max(64 * word), steps);
