@@ -1,0 +1,4 @@
+pub mod NextActive
+pub mod Laws
+pub mod Words
+pub mod Levels
