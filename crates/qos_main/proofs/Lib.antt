@@ -11,3 +11,6 @@ pub mod Egresses
 pub mod Courses
 pub mod Arrivals
 pub mod Frames
+pub mod Records
+pub mod Opens
+pub mod Takes

@@ -13,3 +13,4 @@ pub mod Sender
 pub mod Egress
 pub mod Receiver
 pub mod Halts
+pub mod Taken
