@@ -5,7 +5,7 @@ use crate::{PutFault, Sink, Source};
 
 /// A place that has files by their names.
 pub trait Shelf {
-    ghost use Rattle.qos_io.specs.declared.sink.PutFault.TheVariants.{Failed};
+    ghost use Rattle.qos_io.specs.declared.sink.PutFault.TheVariants.{Failed, NoMemory};
     ghost use Rattle.qos_io.specs.Fault.{Counts};
     ghost use Rattle.qos_io.specs.Bytes.{HoldsPrefix, bytes_in};
     ghost use Rattle.qos_io.specs.Kept.{Closing, OthersStay};
@@ -43,12 +43,14 @@ pub trait Shelf {
         ensures others { OthersStay Tells file IsSureToRead IsSureToWrite None self.old self.new }
         ensures closed { Tells self.old → closed self.new ≡ closed self.old };
 
-    /// An empty sink under that name. The file is then there, and empty; after a refusal it is as it was, or empty.
+    /// An empty sink under that name. The file is then there, and empty; after a failure it is as it was, or empty,
+    /// and where memory was refused it is as it was.
     fn create_out(&mut self, name: &str) -> Result<Self::Out, PutFault>
         ensures named { IfOk result (λ sink. Self.Out.name sink ≡ Some name.now) }
         ensures empty { Tells self.old → IfOk result (λ sink. Self.Out.contents sink ≡ Some []) }
         ensures created { Tells self.old → OnOk result (file self.new name.now ≡ Some []) }
         ensures not_created { Tells self.old → OnErr result ((file self.new name.now ≡ file self.old name.now) ⊎ (file self.new name.now ≡ Some [])) }
+        ensures untouched { Tells self.old → IsErrOf result PutFault.NoMemory → file self.new name.now ≡ file self.old name.now }
         ensures sure { IsSureToWrite self.old name.now → IfOk result Self.Out.IsSure }
         ensures faults { Counts faults (λ s. IsSureToWrite s name.now) self.old self.new (IsErrOf result PutFault.Failed) }
         ensures uncounted { OnOk result (faults self.new ≡ faults self.old) }
