@@ -1,2 +1,3 @@
+pub mod Divisor
 pub mod Reason
 pub mod Time

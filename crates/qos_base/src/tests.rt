@@ -61,6 +61,23 @@ fn times_are_converted(rt: HostRuntime) {
     }
 }
 
+// Two primes, a rate and a line with the divisor 25, and the cases with a 0.
+#[test]
+fn the_greatest_common_divisor_is_found(rt: HostRuntime) {
+    for (a, b, divisor) in [
+        (12, 18, 6),
+        (97, 89, 1),
+        (305_175, 1_250_000_000, 25),
+        (1_250_000_000, 305_175, 25),
+        (0, 7, 7),
+        (7, 0, 7),
+        (0, 0, 0),
+        (u64::MAX, u64::MAX, u64::MAX),
+    ] {
+        assert_eq!(rt; gcd(a, b), divisor, "{a} and {b}");
+    }
+}
+
 #[test]
 fn a_packet_carries_itself(rt: HostRuntime) {
     assert_eq!(rt; PACKET.pkt(), PACKET);

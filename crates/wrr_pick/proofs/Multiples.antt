@@ -1,9 +1,9 @@
 -- Multiples of two numbers, and the least common multiple of a list.
-use Rattle.std.proofs.Common.{◌≡◌, ℕ, ◌+◌, ◌-◌, ◌*◌, ◌%◌, ◌<◌, ◌≤◌, true, false, List, [], ◌∷◌, length, get_or, fold, All, sym, ◌∙◌, ap, subst, arith, unwrap_or, inl, inr, zero, suc}
-use Rattle.std.specs.Int.{◌∣◌}
+use Rattle.std.proofs.Common.{◌≡◌, ℕ, ◌+◌, ◌-◌, ◌*◌, ◌/◌, ◌%◌, ◌<◌, ◌≤◌, true, false, List, [], ◌∷◌, length, get_or, fold, All, sym, ◌∙◌, ap, subst, arith, lit<, unwrap_or, inl, inr, zero, suc}
+use Rattle.std.specs.Int.{◌∣◌, IsGcd}
 use Rattle.std.specs.List.{range_with_len, position_or_len}
-use Rattle.std.proofs.lemmas.Nat.Gcd.{dvd_refl, dvd_trans, le_of_dvd, dvd_of_mod-eq-zero, mod-eq-zero_of_dvd}
-use Rattle.std.proofs.Math.Nat.{dvd-add, dvd-sub, dvd-mod_iff, dvd-mul_left, dvd-mul_right, dvd-mul_right_of_dvd, le-mul_of_pos_right}
+use Rattle.std.proofs.lemmas.Nat.Gcd.{dvd_trans, le_of_dvd, dvd_of_mod-eq-zero, mod-eq-zero_of_dvd}
+use Rattle.std.proofs.Math.Nat.{dvd-mod_iff, dvd-mul_left, dvd-mul_right, dvd-mul_right_of_dvd, le-mul_of_pos_right, div-mul_cancel, mul-pos, dvd_of_mul-dvd-mul_right, dvd_of_mul-dvd-mul_left, mul-dvd-mul_left, mul-dvd-mul_right, mul_comm, mul-le-mul_right, div-le_self, eq-zero_of_zero-dvd}
 use Rattle.std.proofs.lemmas.Nat.{mod_below}
 use Rattle.std.proofs.lemmas.Bool.{eqb-true, eq-eqb, both_ways, cases_lt}
 use Rattle.std.proofs.lemmas.List.{get_or_default}
@@ -12,60 +12,6 @@ use Rattle.std.proofs.lemmas.List.Folds.{find_at}
 use Rattle.std.proofs.lemmas.List.Sums.{AllPass-from_list_all, list_all-from_AllPass, fails_before_first, passes_at_first}
 use Rattle.std.proofs.lemmas.Option.{unwrap_or-slice_get}
 use Rattle.wrr_pick.specs.Multiple.{is_common_multiple, least_common_multiple, IsLeastCommonMultiple}
-
--- between two multiples of a there is room for a
-next-multiple : (a m n : ℕ) → a ∣ m → a ∣ n → m < n → m + a ≤ n
-next-multiple a m n p q h = omega (arith, le_of_dvd {m = a} {n = n - m} (omega arith) (dvd-sub a q p))
-
--- a multiple of a with no common multiple of a and b below it
-pub record IsCandidate (a b n : ℕ) : Type 0 where
-  pub divides : a ∣ n
-  pub positive : 0 < n
-  pub within : n ≤ a * b
-  pub none_before : (m : ℕ) → 0 < m → m < n → a ∣ m → b ∣ m → ⊥
-
-pub candidate-first : (a b : ℕ) → 0 < a → 0 < b → IsCandidate a b a
-candidate-first a b p q = record {
-  divides = dvd_refl a;
-  positive = p;
-  within = le-mul_of_pos_right a q;
-  none_before = λ m positive below divides _. absurd (omega (arith, le_of_dvd {m = a} {n = m} positive divides));
-}
-
--- where b does not divide a candidate, there is room for the next
-pub candidate-room : (a b n : ℕ) → IsCandidate a b n → (n % b ≡ 0 → ⊥) → n + a ≤ a * b
-candidate-room a b n h test =
-    elim (cases_lt n (a * b)) [
-      | inl below ↦ next-multiple a n (a * b) h.divides (dvd-mul_right a b) below
-      | inr above ↦
-          let same : a * b ≡ n = omega (arith, h.within) in
-          absurd (test (ap (λ k. k % b) (sym same) ∙ mod-eq-zero_of_dvd b (dvd-mul_left b a)))
-    ]
-
-pub candidate-next : (a b n : ℕ) → IsCandidate a b n → (n % b ≡ 0 → ⊥) → IsCandidate a b (n + a)
-candidate-next a b n h test = record {
-  divides = dvd-add a h.divides (dvd_refl a);
-  positive = omega (arith, h.positive);
-  within = candidate-room a b n h test;
-  none_before = λ m positive below first second.
-      elim (cases_lt m n) [
-        | inl under ↦ h.none_before m positive under first second
-        | inr over ↦ elim (cases_lt n m) [
-          | inl above ↦ absurd (omega (arith, next-multiple a n m h.divides first above))
-          | inr under ↦
-              let same : m ≡ n = omega arith in
-              test (ap (λ k. k % b) (sym same) ∙ mod-eq-zero_of_dvd b second)
-        ]
-      ];
-}
-
--- a candidate that b divides divides each common multiple
-pub candidate-least : (a b n : ℕ) → IsCandidate a b n → n % b ≡ 0 → (m : ℕ) → a ∣ m → b ∣ m → n ∣ m
-candidate-least a b n h test m first second =
-    elim (cases_lt 0 (m % n)) [
-      | inl positive ↦ absurd (h.none_before (m % n) positive (mod_below m n h.positive) ((dvd-mod_iff a h.divides).1 first) ((dvd-mod_iff b (dvd_of_mod-eq-zero b test)).1 second))
-      | inr none ↦ dvd_of_mod-eq-zero n (omega arith)
-    ]
 
 -- what divides the first factor divides the product
 dvd-product : (ns : List ℕ) (w a : ℕ) → w ∣ a → w ∣ fold ◌*◌ a ns
@@ -140,6 +86,91 @@ least_common_multiple-is_least ns all =
 -- there is only one
 pub IsLeastCommonMultiple-one : (ns : List ℕ) (m n : ℕ) → IsLeastCommonMultiple ns m → IsLeastCommonMultiple ns n → m ≡ n
 IsLeastCommonMultiple-one ns m n a b = omega (arith, a.least n b.positive b.multiple, b.least m a.positive a.multiple)
+
+-- what holds of two numbers holds of each
+of-two : (P : ℕ → Type 0) (a b : ℕ) → P a → P b → All P (a ∷ b ∷ [])
+of-two P a b p q zero d h = p
+of-two P a b p q (suc zero) d h = q
+of-two P a b p q (suc (suc k)) d h = absurd (omega arith)
+
+-- a least common multiple divides every common multiple of two numbers
+least-divides : (a b l m : ℕ) → IsLeastCommonMultiple (a ∷ b ∷ []) l → a ∣ m → b ∣ m → l ∣ m
+least-divides a b l m is first second =
+    elim (cases_lt 0 (m % l)) [
+      | inr none ↦ dvd_of_mod-eq-zero l (omega arith)
+      | inl above ↦
+          let rest_first : a ∣ m % l = (dvd-mod_iff a (is.multiple 0 0 (lit< tt))).1 first in
+          let rest_second : b ∣ m % l = (dvd-mod_iff b (is.multiple 1 0 (lit< tt))).1 second in
+          absurd (omega (arith, mod_below m l is.positive, is.least (m % l) above (of-two (λ w. w ∣ m % l) a b rest_first rest_second)))
+    ]
+
+-- a times b over their greatest common divisor divides every common multiple
+pub product-over-divisor : (a b g m : ℕ) → 0 < a → 0 < b → IsGcd a b g → a ∣ m → b ∣ m → a / g * b ∣ m
+product-over-divisor a b g m a_positive b_positive h first second =
+    dvd_trans (a / g * b) {b = l} {c = m} part (least-divides a b l m is first second)
+  where
+    l : ℕ
+    l = least_common_multiple (a ∷ b ∷ [])
+
+    is : IsLeastCommonMultiple (a ∷ b ∷ []) l
+    is = least_common_multiple-is_least (a ∷ b ∷ []) (of-two (λ w. 1 ≤ w) a b a_positive b_positive)
+
+    q : ℕ
+    q = a * b / l
+
+    whole : q * l ≡ a * b
+    whole = div-mul_cancel l (least-divides a b l (a * b) is (dvd-mul_right a b) (dvd-mul_left b a))
+
+    q_positive : 0 < q
+    q_positive = elim (cases_lt 0 q) [
+      | inl above ↦ above
+      | inr none ↦
+          let zero_q : q ≡ 0 = omega arith in
+          let product : 0 < a * b = mul-pos a_positive b_positive in
+          absurd (omega (arith, product, whole, ap (λ x. x * l) zero_q))
+    ]
+
+    divides_first : q ∣ a
+    divides_first = dvd_of_mul-dvd-mul_right q b_positive (subst (λ x. q * b ∣ x) whole (mul-dvd-mul_left b q (is.multiple 1 0 (lit< tt))))
+
+    divides_second : q ∣ b
+    divides_second = dvd_of_mul-dvd-mul_right q a_positive (subst (λ x. q * a ∣ x) (whole ∙ mul_comm a b) (mul-dvd-mul_left a q (is.multiple 0 0 (lit< tt))))
+
+    cancelled : g * (a / g * b) ≡ a * b
+    cancelled = let e : a / g * g ≡ a = div-mul_cancel g h.0 in omega (arith, ap (λ x. x * b) e)
+
+    part : a / g * b ∣ l
+    part = dvd_of_mul-dvd-mul_left (a / g * b) q_positive (subst (λ x. q * (a / g * b) ∣ x) (cancelled ∙ sym whole) (mul-dvd-mul_right q (h.2 q divides_first divides_second) (a / g * b)))
+
+-- the first number divides it too
+pub divides-product-over : (a b g : ℕ) → IsGcd a b g → a ∣ a / g * b
+divides-product-over a b g h =
+    let e : a / g * g ≡ a = div-mul_cancel g h.0 in
+    let f : b / g * g ≡ b = div-mul_cancel g h.1 in
+    let same : a * (b / g) ≡ a / g * b = omega (arith, ap (λ x. x * (b / g)) e, ap (λ x. a / g * x) f) in
+    subst (λ x. a ∣ x) same (dvd-mul_right a (b / g))
+
+-- it is positive, and at most the product
+pub product-over-bounds : (a b g : ℕ) → 0 < a → 0 < b → IsGcd a b g → (0 < a / g * b) × (a / g * b ≤ a * b) × (0 < g)
+product-over-bounds a b g a_positive b_positive h =
+    let e : a / g * g ≡ a = div-mul_cancel g h.0 in
+    (mul-pos (quotient e) b_positive, mul-le-mul_right b (div-le_self a g), divisor)
+  where
+    divisor : 0 < g
+    divisor = elim (cases_lt 0 g) [
+      | inl above ↦ above
+      | inr none ↦
+          let g0 : g ≡ 0 = omega arith in
+          absurd (omega (arith, a_positive, eq-zero_of_zero-dvd (subst (λ x. x ∣ a) g0 h.0)))
+    ]
+
+    quotient : a / g * g ≡ a → 0 < a / g
+    quotient e = elim (cases_lt 0 (a / g)) [
+      | inl above ↦ above
+      | inr none ↦
+          let zero_q : a / g ≡ 0 = omega arith in
+          absurd (omega (arith, a_positive, e, ap (λ x. x * g) zero_q))
+    ]
 
 -- what holds of 0, 1, 2 and 3 holds below 4
 pub below-four : (P : ℕ → Type 0) → P 0 → P 1 → P 2 → P 3 → (k : ℕ) → k < 4 → P k

@@ -3,6 +3,8 @@ ghost use Rattle.std.specs.Prelude.{◌≡◌, ℕ, ◌*◌, ◌^◌, ◌<◌, �
 ghost use Rattle.std.specs.Int.{◌∣◌};
 ghost use Rattle.wrr_pick.specs.Multiple.{least_common_multiple};
 
+use qos_base::gcd;
+
 /// The least common multiple of four weights.
 pub(crate) fn common_multiple(weights: &[u8; 4]) -> u64
     requires { All (λ w. 1 ≤ w) weights.now }
@@ -16,8 +18,8 @@ pub(crate) fn common_multiple(weights: &[u8; 4]) -> u64
     multiple_of_both(multiple, u64::from(weights[3]))
 }
 
-// The least number that both divide, which divides every other one: it is looked for among the multiples
-// of the first.
+// The least number that both divide, which divides every other one: their product over their greatest
+// common divisor.
 fn multiple_of_both(a: u64, b: u64) -> u64
     requires first_positive { 0 < a }
     requires second_positive { 0 < b }
@@ -28,9 +30,5 @@ fn multiple_of_both(a: u64, b: u64) -> u64
     ensures positive { 0 < result }
     ensures within { result ≤ a * b }
 {
-    let mut multiple = a;
-    while multiple % b != 0 {
-        multiple += a;
-    }
-    multiple
+    a / gcd(a, b) * b
 }

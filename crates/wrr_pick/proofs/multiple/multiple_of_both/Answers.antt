@@ -1,21 +1,20 @@
-use Rattle.std.proofs.Common.{◌+◌, ◌*◌, ◌≤◌, arith}
-use Rattle.wrr_pick.proofs.Multiples.{candidate-first, candidate-room, candidate-next, candidate-least}
+use Rattle.std.proofs.Math.Nat.{dvd-mul_left}
+use Rattle.wrr_pick.proofs.Multiples.{product-over-divisor, divides-product-over, product-over-bounds}
 use Rattle.wrr_pick.proofs.multiple.multiple_of_both.Goals as goal
 
-pub loop-multiple-init : goal.loop-multiple-init
-loop-multiple-init c = candidate-first _ _ c.requires.first_positive c.requires.second_positive
+pub nonzero_div-result : goal.nonzero_div-result
+nonzero_div-result c =
+    (product-over-bounds _ _ _ c.requires.first_positive c.requires.second_positive c.gcd.ensures.divisor).2
 
-pub overflow_add-multiple : goal.overflow_add-multiple
-overflow_add-multiple c =
-    omega (arith, candidate-room _ _ _ c.loop-multiple.invariant c.loop-multiple-test.true)
+pub returns-clause-first : goal.returns-clause-first
+returns-clause-first c = divides-product-over _ _ _ c.gcd.ensures.divisor
 
-pub loop-multiple-smaller : goal.loop-multiple-smaller
-loop-multiple-smaller c =
-    let room : c.loop-multiple.multiple + c.args.a ≤ c.args.a * c.args.b = candidate-room _ _ _ c.loop-multiple.invariant c.loop-multiple-test.true in
-    omega arith
-
-pub loop-multiple-preserved : goal.loop-multiple-preserved
-loop-multiple-preserved c = candidate-next _ _ _ c.loop-multiple.invariant c.loop-multiple-test.true
+pub returns-clause-second : goal.returns-clause-second
+returns-clause-second c = dvd-mul_left _ _
 
 pub returns-clause-least : goal.returns-clause-least
-returns-clause-least c = candidate-least _ _ _ c.loop-multiple.invariant c.loop-multiple-test.false
+returns-clause-least c = λ m. product-over-divisor _ _ _ m c.requires.first_positive c.requires.second_positive c.gcd.ensures.divisor
+
+pub returns-clause-positive : goal.returns-clause-positive
+returns-clause-positive c =
+    (product-over-bounds _ _ _ c.requires.first_positive c.requires.second_positive c.gcd.ensures.divisor).0
