@@ -436,4 +436,5 @@ fn what_is_written_has_the_format(rt: HostRuntime) {
 fn laws_are_called() {
     laws::reads_one_way();
     laws::reads_back();
+    laws::first_stamps();
 }
