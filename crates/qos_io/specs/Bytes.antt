@@ -1,5 +1,5 @@
 -- What a read takes and what a put adds, where the bytes are told.
-use Rattle.std.specs.Prelude.{◌≡◌, ℕ, zero, suc, ◌+◌, ◌≤◌, List, [], ◌∷◌, ◌++◌, length, take, drop, Option, None, Some, refl}
+use Rattle.std.specs.Prelude.{◌≡◌, ℕ, ◌+◌, ◌≤◌, List, [], ◌∷◌, ◌++◌, length, take, drop, Option, None, Some, refl}
 use Rattle.std.specs.Option.{option_map, unwrap_or}
 use Rattle.std.proofs.Common.{ap, sym, subst, ◌∙◌, zero-add, suc-add, length-append, zero-le}
 use Rattle.std.proofs.Math.Nat.{add-le-add, le-add_right, le_refl, le_trans}

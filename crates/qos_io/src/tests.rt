@@ -1,20 +1,28 @@
 use super::*;
-use std::alloc::Global;
-use std::test::Fail;
+use std::fmt::Debug;
+use std::process::Abort;
 use std::thread;
 
+fn same<T: PartialEq + Debug>(rt: &impl Abort, value: &T, wanted: &T, note: &str) {
+    assert_eq!(rt; value, wanted, "{note}");
+}
+
+fn vec<R: Abort + AllocGlobal>(rt: &R, bytes: &[u8]) -> Vec<u8> {
+    bytes.to_vec(rt.alloc()).expect(rt, "memory")
+}
+
 /// What a source gives to reads of three bytes, at most eight of them, and how many of them failed.
-fn drain<S: Source>(alloc: Global, mut source: S) -> Result<(Vec<u8>, u8), PutFault> {
-    let mut all = Vec::new(alloc);
+fn drain<S: Source, R: Abort + AllocGlobal>(rt: &R, mut source: S) -> (Vec<u8>, u8) {
+    let mut all = Vec::new(rt.alloc());
     let mut failed = 0u8;
     for _ in 0..8 {
         let mut piece = [0; 3];
         match source.read(&mut piece) {
-            Ok(n) => all.extend_from_slice(&piece[..n])?,
+            Ok(n) => all.extend_from_slice(&piece[..n]).expect(rt, "memory"),
             Err(Failed) => failed = failed.saturating_add(1),
         }
     }
-    Ok((all, failed))
+    (all, failed)
 }
 
 /// Copies the first eight bytes of one file to another.
@@ -28,26 +36,28 @@ fn copy<H: Shelf>(shelf: &mut H, from: &str, to: &str) -> Result<(), PutFault> {
     shelf.close_out(sink)
 }
 
+// Which reads fail, and how many of the eight did.
 #[test]
-fn sources_are_read_to_the_end(rt: HostRuntime) -> Result<(), Fail> {
-    let alloc = rt.alloc();
+fn sources_are_read_to_the_end(rt: HostRuntime) {
     let bytes = [1, 2, 3, 4, 5, 6, 7];
-    for (fails, failed) in [([9, 9], 0), ([0, 2], 2), ([1, 8], 1)] {
-        let source = MemSource::new(bytes.to_vec(alloc)?, fails.to_vec(alloc)?);
-        let (all, count) = drain(alloc, source)?;
-        assert_eq!(rt; all.as_slice(), bytes.as_slice());
-        assert_eq!(rt; count, failed);
+    for (fails, failed) in [([9u32, 9], 0), ([0, 2], 2), ([1, 8], 1)] {
+        let fails = fails.to_vec(rt.alloc()).expect(&rt, "memory");
+        let found = drain(&rt, MemSource::new(vec(&rt, &bytes), fails));
+        same(&rt, &found, &(vec(&rt, &bytes), failed), "planned failures");
     }
-    let (all, count) = drain(alloc, WholeSource::new(bytes.to_vec(alloc)?))?;
-    assert_eq!(rt; all.as_slice(), bytes.as_slice());
-    assert_eq!(rt; count, 0);
-    Ok(())
+    let found = drain(&rt, WholeSource::new(vec(&rt, &bytes)));
+    same(
+        &rt,
+        &found,
+        &(vec(&rt, &bytes), 0),
+        "a source that never fails",
+    );
 }
 
 #[test]
-fn sinks_hold_what_was_put(rt: HostRuntime) -> Result<(), Fail> {
-    let alloc = rt.alloc();
-    let mut sink = MemSink::new(alloc, [1u32, 3].to_vec(alloc)?);
+fn sinks_hold_what_was_put(rt: HostRuntime) {
+    let fails = [1u32, 3].to_vec(rt.alloc()).expect(&rt, "memory");
+    let mut sink = MemSink::new(rt.alloc(), fails);
     for (bytes, answer) in [
         ([1, 2], Ok(())),
         ([3, 4], Err(PutFault::Failed)),
@@ -55,74 +65,89 @@ fn sinks_hold_what_was_put(rt: HostRuntime) -> Result<(), Fail> {
         ([7, 8], Err(PutFault::Failed)),
         ([9, 0], Ok(())),
     ] {
-        assert_eq!(rt; sink.put(&bytes), answer);
+        same(&rt, &sink.put(&bytes), &answer, "a put");
     }
-    assert_eq!(rt; sink.bytes(), [1, 2, 5, 6, 9, 0].as_slice());
-    let mut whole = WholeSink::new(alloc);
-    whole.put(&[1, 2])?;
-    whole.put(&[3])?;
-    assert_eq!(rt; whole.bytes(), [1, 2, 3].as_slice());
-    Ok(())
+    same(
+        &rt,
+        &sink.bytes(),
+        &[1, 2, 5, 6, 9, 0].as_slice(),
+        "planned failures",
+    );
+    let mut whole = WholeSink::new(rt.alloc());
+    same(&rt, &whole.put(&[1, 2]), &Ok(()), "a put");
+    same(
+        &rt,
+        &whole.bytes(),
+        &[1, 2].as_slice(),
+        "a sink that never fails",
+    );
 }
 
 #[test]
-fn a_shelf_keeps_files_by_name(rt: HostRuntime) -> Result<(), Fail> {
-    let alloc = rt.alloc();
-    let mut shelf = MemShelf::new(alloc);
-    shelf.put_file("a", [1, 2, 3].to_vec(alloc)?)?;
-    shelf.put_file("b", [4].to_vec(alloc)?)?;
-    copy(&mut shelf, "a", "b")?;
-    shelf.put_file("a", [5].to_vec(alloc)?)?;
-    assert_eq!(rt; shelf.file("a").unwrap_or(&[]), [5].as_slice());
-    assert_eq!(rt; shelf.file("b").unwrap_or(&[]), [1, 2, 3].as_slice());
-    assert!(rt; shelf.file("c").is_none());
-    Ok(())
+fn a_shelf_keeps_files_by_name(rt: HostRuntime) {
+    let mut shelf = MemShelf::new(rt.alloc());
+    for (name, byte) in [("a", 1), ("b", 4)] {
+        let put = shelf.put_file(name, vec(&rt, &[byte; 3]));
+        same(&rt, &put.is_ok(), &true, "a file");
+    }
+    for (from, to, answer) in [
+        ("a", "b", Ok(())),
+        ("c", "b", Err(PutFault::Failed)),
+        ("b", "d", Ok(())),
+    ] {
+        same(&rt, &copy(&mut shelf, from, to), &answer, from);
+    }
+    for (name, held) in [
+        ("a", Some([1; 3])),
+        ("b", Some([1; 3])),
+        ("c", None),
+        ("d", Some([1; 3])),
+    ] {
+        let bytes = shelf.file(name).map(|bytes| vec(&rt, bytes));
+        same(&rt, &bytes, &held.map(|bytes| vec(&rt, &bytes)), name);
+    }
+}
+
+// A name of no file opens as an empty file.
+#[test]
+fn a_whole_shelf_keeps_files_by_name(rt: HostRuntime) {
+    let mut shelf = WholeShelf::new(rt.alloc());
+    let put = shelf.put_file("a", vec(&rt, &[1; 3]));
+    same(&rt, &put.is_ok(), &true, "a file");
+    for (from, to) in [("a", "b"), ("c", "d")] {
+        same(&rt, &copy(&mut shelf, from, to), &Ok(()), from);
+    }
+    for (name, len) in [("a", Some(3)), ("b", Some(3)), ("c", None), ("d", Some(0))] {
+        same(&rt, &shelf.file(name).map(|bytes| bytes.len()), &len, name);
+    }
 }
 
 #[test]
-fn a_whole_shelf_keeps_files_by_name(rt: HostRuntime) -> Result<(), Fail> {
-    let alloc = rt.alloc();
-    let mut shelf = WholeShelf::new(alloc);
-    shelf.put_file("a", [1, 2, 3].to_vec(alloc)?)?;
-    copy(&mut shelf, "a", "b")?;
-    assert_eq!(rt; shelf.file("a").unwrap_or(&[]), [1, 2, 3].as_slice());
-    assert_eq!(rt; shelf.file("b").unwrap_or(&[]), [1, 2, 3].as_slice());
-    assert!(rt; shelf.file("c").is_none());
-    Ok(())
+fn a_sink_of_another_shelf_is_closed(rt: HostRuntime) {
+    let mut sink = MemShelf::new(rt.alloc())
+        .create_out("a")
+        .expect(&rt, "memory");
+    sink.put(&[1, 2]).expect(&rt, "memory");
+    let mut shelf = MemShelf::new(rt.alloc());
+    same(&rt, &shelf.close_out(sink), &Ok(()), "a closing");
+    same(
+        &rt,
+        &shelf.file("a").map(|bytes| bytes.len()),
+        &Some(2),
+        "a",
+    );
 }
 
 #[test]
-fn an_absent_name_is_opened(rt: HostRuntime) -> Result<(), Fail> {
-    let alloc = rt.alloc();
-    let mut shelf = MemShelf::new(alloc);
-    assert_eq!(rt; shelf.open_in("a").err(), Some(PutFault::Failed));
-    assert_eq!(rt; copy(&mut shelf, "a", "b"), Err(PutFault::Failed));
-    let mut whole = WholeShelf::new(alloc);
-    copy(&mut whole, "a", "b")?;
-    assert!(rt; whole.file("a").is_none());
-    assert_eq!(rt; whole.file("b").map(|bytes| bytes.len()), Some(0));
-    Ok(())
-}
-
-#[test]
-fn a_sink_of_another_shelf_is_closed(rt: HostRuntime) -> Result<(), Fail> {
-    let alloc = rt.alloc();
-    let mut sink = MemShelf::new(alloc).create_out("a")?;
-    sink.put(&[1, 2])?;
-    let mut shelf = MemShelf::new(alloc);
-    shelf.close_out(sink)?;
-    assert_eq!(rt; shelf.file("a").unwrap_or(&[]), [1, 2].as_slice());
-    Ok(())
-}
-
-#[test]
-fn objects_go_to_other_threads(rt: HostRuntime) -> Result<(), Fail> {
-    let alloc = rt.alloc();
-    let mut shelf = MemShelf::new(alloc);
-    shelf.put_file("a", Vec::new(alloc))?;
-    let source = shelf.open_in("a")?;
-    let sink = shelf.create_out("b")?;
+fn objects_go_to_other_threads(rt: HostRuntime) {
+    let mut shelf = WholeShelf::new(rt.alloc());
+    let source = shelf.open_in("a").expect(&rt, "memory");
+    let sink = shelf.create_out("b").expect(&rt, "memory");
     thread::join(&rt, move || drop(source), move || drop(sink));
     thread::join(&rt, move || drop(shelf), || ());
-    Ok(())
+    let shelf = MemShelf::new(rt.alloc());
+    let source = MemSource::new(Vec::new(rt.alloc()), Vec::new(rt.alloc()));
+    let sink = MemSink::new(rt.alloc(), Vec::new(rt.alloc()));
+    thread::join(&rt, move || drop(source), move || drop(sink));
+    thread::join(&rt, move || drop(shelf), || ());
 }

@@ -1,4 +1,5 @@
 pub mod Filling
+pub mod Firsts
 pub mod Giving
 pub mod Opened
 pub mod OneWay

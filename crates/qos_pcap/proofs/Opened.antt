@@ -1,19 +1,18 @@
 -- What a header tells, from the first 24 bytes of a capture.
-use Rattle.std.proofs.Common.{◌≡◌, ◌≢◌, ◌<◌, ◌≤◌, ℕ, ◌+◌, ◌%◌, min, true, false, nat_lt, ◌==◌, if◌then◌else◌, List, [], ◌++◌, length, take, drop, Option, Some, None, Result, Ok, Err, refl, sym, ap, ◌∙◌, subst, inl, inr, arith}
+use Rattle.std.proofs.Common.{◌≡◌, ◌≤◌, ℕ, false, nat_lt, List, [], length, take, drop, Option, Some, None, Result, Err, refl, ap, ◌∙◌, subst, inl, inr, arith}
 use Rattle.std.specs.Result.{MatchResult}
 use Rattle.std.proofs.lemmas.Bool.{cases_lt}
 use Rattle.std.proofs.lemmas.Bool.Decides.{nat_tests}
-use Rattle.std.proofs.lemmas.List.{append-nil, drop_all, length-take-le, take_all, take_at}
+use Rattle.std.proofs.lemmas.List.{length-take-le, take_all, take_at}
 use Rattle.byteorder.specs.Endian.{little_number, big_number}
 use Rattle.byteorder.specs.Numbers.{big_from-take, little_from-take}
 use Rattle.qos_pcap.specs.declared.fault.PcapFault.{PcapFault}
-use Rattle.qos_pcap.specs.declared.fault.PcapFault.TheVariants.{CutHeader}
 use Rattle.qos_pcap.specs.declared.fault.Stop.{Stop}
 use Rattle.qos_pcap.specs.declared.fault.Stop.TheVariants.{Fault}
 use Rattle.qos_pcap.specs.declared.form.Form.{Form}
 use Rattle.qos_pcap.specs.Fill.{Fills}
 use Rattle.qos_pcap.specs.First.{first_stamp, stamp_after}
-use Rattle.qos_pcap.specs.Format.{Record, header_after, header_of, magic_form, number_in}
+use Rattle.qos_pcap.specs.Format.{Record, header_after, header_of, magic_form}
 use Rattle.qos_pcap.specs.Reads.{Reads, ReadsFrom}
 use Rattle.qos_pcap.proofs.Giving.{number_in-front}
 

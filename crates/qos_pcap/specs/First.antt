@@ -1,10 +1,12 @@
 -- The stamp of a head that can be read, whether its body is whole or cut.
-use Rattle.std.specs.Prelude.{◌≡◌, ◌≢◌, ℕ, zero, suc, nat_lt, if◌then◌else◌, List, length, drop, Option, None, Some, Result, Ok, Err}
+use Rattle.std.specs.Prelude.{◌≡◌, ◌≢◌, ℕ, zero, suc, nat_lt, if◌then◌else◌, List, [], ◌∷◌, length, drop, Option, None, Some, Result, Ok, Err}
 use Rattle.qos_pcap.specs.declared.fault.PcapFault.{PcapFault}
 use Rattle.qos_pcap.specs.declared.fault.PcapFault.TheVariants.{Read}
+use Rattle.qos_pcap.specs.declared.fault.Stop.{Stop}
 use Rattle.qos_pcap.specs.declared.form.Form.{Form}
 use Rattle.qos_pcap.specs.declared.head.Head.{Head}
-use Rattle.qos_pcap.specs.Format.{cap_in, header_of, stamp_in}
+use Rattle.qos_pcap.specs.Format.{Record, cap_in, header_of, stamp_in}
+use Rattle.qos_pcap.specs.Reads.{Reads, IsWholeCapture}
 
 -- The stamp that the head at the front of these bytes has, where `left` more records may be read. A head is there where its 16 bytes are and its captured length is at most 262,144.
 abbrev pub stamp_at : Form → ℕ → List ℕ → Option ℕ
@@ -27,3 +29,8 @@ abbrev pub AnswersStamp : Option ℕ → Result (Option Head) PcapFault → Type
 AnswersStamp stamp (Ok None) = stamp ≡ None
 AnswersStamp stamp (Ok (Some head)) = stamp ≡ Some head.stamp
 AnswersStamp stamp (Err fault) = fault ≢ Read → stamp ≡ None
+
+-- the first head is that of the first record, where there is one, and a whole capture without a record has none
+pub record FirstStamps : Type 0 where
+  pub of_record : (bytes : List ℕ) (limit : ℕ) (first : Record) (rest : List Record) (stop : Stop) → Reads bytes limit (first ∷ rest) stop → first_stamp bytes limit ≡ Some first.stamp
+  pub none : (bytes : List ℕ) (limit : ℕ) → IsWholeCapture limit bytes [] → first_stamp bytes limit ≡ None

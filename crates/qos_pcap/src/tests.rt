@@ -1,137 +1,440 @@
 mod objects;
 
-use super::*;
-use objects::{Bytes, Held};
-use qos_io::{PutFault, Sink, Source};
-use std::alloc::Global;
-use std::test::Fail;
+ghost use Rattle.std.specs.Prelude.{◌≡◌, Some, None};
+ghost use Rattle.qos_pcap.specs.Given.{untaken};
 
-const HEADER: [u8; 24] = [
-    0x4d, 0x3c, 0xb2, 0xa1, 2, 0, 4, 0, 0, 0, 0, 0, 0, 0, 0, 0, 0, 0, 4, 0, 1, 0, 0, 0,
+use super::*;
+use objects::Parts;
+use qos_io::{MemSink, MemSource, PutFault, Sink, Source, WholeSink, WholeSource};
+use std::fmt::Debug;
+use std::process::Abort;
+
+/// What was read of a capture.
+#[derive(Clone, Copy, Debug, PartialEq, Eq)]
+struct Seen {
+    /// How many heads were given.
+    heads: u32,
+    /// How many of them had a whole body.
+    records: u32,
+    /// The stamp and the length on the line of the first head; 0 where there was none.
+    stamp: u64,
+    wire: u32,
+    stop: Stop,
+    /// After the stop there was no head more.
+    stays: bool,
+}
+
+// A header and the head of a record, one for each magic number. The record is one of 60 bytes, 1.5 seconds
+// after the origin of the stamps.
+const NANOSECONDS: [u8; 40] = [
+    0x4d, 0x3c, 0xb2, 0xa1, 2, 0, 4, 0, 0, 0, 0, 0, 0, 0, 0, 0, 0, 0, 4, 0, 1, 0, 0, 0, //
+    1, 0, 0, 0, 0x00, 0x65, 0xcd, 0x1d, 60, 0, 0, 0, 60, 0, 0, 0,
 ];
 
-// The head of a record of 60 bytes, captured 1,500,000,029 ns after the origin of the stamps.
-const HEAD: [u8; 16] = [1, 0, 0, 0, 0x1d, 0x65, 0xcd, 0x1d, 60, 0, 0, 0, 60, 0, 0, 0];
+const MICROSECONDS: [u8; 40] = [
+    0xd4, 0xc3, 0xb2, 0xa1, 2, 0, 4, 0, 0, 0, 0, 0, 0, 0, 0, 0, 0xff, 0xff, 0, 0, 1, 0, 0, 0, //
+    1, 0, 0, 0, 0x20, 0xa1, 0x07, 0, 60, 0, 0, 0, 60, 0, 0, 0,
+];
 
-const STAMP: u64 = 1_500_000_029;
+const BIG_NANOSECONDS: [u8; 40] = [
+    0xa1, 0xb2, 0x3c, 0x4d, 0, 2, 0, 4, 0, 0, 0, 0, 0, 0, 0, 0, 0, 4, 0, 0, 0, 0, 0, 1, //
+    0, 0, 0, 1, 0x1d, 0xcd, 0x65, 0x00, 0, 0, 0, 60, 0, 0, 0, 60,
+];
 
-/// A capture of three records. Their bodies have the byte 7, 8 or 9 sixty times.
-fn three(alloc: Global) -> Result<Vec<u8>, Fail> {
-    let mut bytes = HEADER.to_vec(alloc)?;
-    for byte in 7..10u8 {
-        bytes.extend_from_slice(&HEAD)?;
-        bytes.extend_from_slice(&[byte; 60])?;
-    }
-    Ok(bytes)
+const BIG_MICROSECONDS: [u8; 40] = [
+    0xa1, 0xb2, 0xc3, 0xd4, 0, 2, 0, 4, 0, 0, 0, 0, 0, 0, 0, 0, 0, 0, 0xff, 0xff, 0, 0, 0, 1, //
+    0, 0, 0, 1, 0, 0x07, 0xa1, 0x20, 0, 0, 0, 60, 0, 0, 0, 60,
+];
+
+const STAMP: u64 = 1_500_000_000;
+
+fn same<T: PartialEq + Debug>(rt: &impl Abort, value: &T, wanted: &T, note: &str) {
+    assert_eq!(rt; value, wanted, "{note}");
 }
 
-fn source(bytes: Vec<u8>, reads: u32) -> Bytes {
-    Bytes {
-        bytes,
-        at: 0,
-        reads,
-        faults: 0,
+/// A capture of three records, of 252 bytes: the header, and three times the head and a body of 60 bytes.
+fn three<R: Abort + AllocGlobal>(rt: &R, text: &[u8; 40]) -> Vec<u8> {
+    let mut bytes = text.to_vec(rt.alloc()).expect(rt, "memory");
+    bytes.extend_from_slice(&[7; 60]).expect(rt, "memory");
+    for _ in 0..2 {
+        bytes.extend_from_slice(&text[24..]).expect(rt, "memory");
+        bytes.extend_from_slice(&[7; 60]).expect(rt, "memory");
     }
+    bytes
 }
 
-/// How many records are read whole, and how the reading ends. Each second body is skipped.
-fn count<S: Source>(src: S, limit: u32) -> (u32, Stop) {
-    let mut capture = match open_capture(src, limit) {
-        Ok(capture) => capture,
-        Err(fault) => return (0, Stop::Fault(fault)),
+/// Reads a capture to its stop. Each second body is skipped.
+fn read<S: Source>(src: S, limit: u32) -> Seen {
+    let mut seen = Seen {
+        heads: 0,
+        records: 0,
+        stamp: 0,
+        wire: 0,
+        stop: Stop::NotOpened,
+        stays: true,
     };
-    for count in 0..10u32 {
-        let head = match capture.next_head() {
-            Ok(Some(head)) => head,
-            Ok(None) => return (count, Stop::End),
-            Err(fault) => return (count, Stop::Fault(fault)),
-        };
-        if head.cap != 60 {
-            return (count, Stop::NotOpened);
-        }
-        let mut body = [0u8; 60];
-        let passed = if head.index % 2 == 1 {
-            capture.skip_body()
-        } else {
-            capture.body_into(&mut body)
-        };
-        if let Err(fault) = passed {
-            return (count, Stop::Fault(fault));
-        }
+    match open_capture(src, limit) {
+        Ok(mut capture) => read_records(&mut capture, &mut seen),
+        Err(fault) => seen.stop = Stop::Fault(fault),
     }
-    (10, Stop::NotOpened)
+    seen
 }
 
-// The capture has 252 bytes: a header of 24, and three records of 76.
+fn read_records<S: Source>(capture: &mut Capture<S>, seen: &mut Seen)
+    requires { untaken capture.old ≡ None }
+{
+    for _ in 0..100u32 {
+        match read_record(capture, seen) {
+            None => {}
+            Some(stop) => {
+                seen.stop = stop;
+                seen.stays = capture.next_head() == Ok(None);
+                return;
+            }
+        }
+    }
+}
+
+/// Reads a record, or answers why there is none.
+fn read_record<S: Source>(capture: &mut Capture<S>, seen: &mut Seen) -> Option<Stop>
+    requires { untaken capture.old ≡ None }
+    ensures { untaken capture.new ≡ None }
+{
+    let head = match capture.next_head() {
+        Ok(Some(head)) => head,
+        Ok(None) => return Some(Stop::End),
+        Err(fault) => return Some(Stop::Fault(fault)),
+    };
+    if seen.heads == 0 {
+        seen.stamp = head.stamp;
+        seen.wire = head.wire;
+    }
+    seen.heads = seen.heads.saturating_add(1);
+    match pass(capture, head) {
+        Ok(()) => {
+            seen.records = seen.records.saturating_add(1);
+            None
+        }
+        Err(fault) => Some(Stop::Fault(fault)),
+    }
+}
+
+/// Takes the body of each first of two records of 60 bytes, and passes over all others.
+fn pass<S: Source>(capture: &mut Capture<S>, head: Head) -> Result<(), PcapFault>
+    requires { untaken capture.old ≡ Some head }
+    ensures { untaken capture.new ≡ None }
+{
+    let mut body = [0u8; 60];
+    if head.cap == 60 && head.index % 2 == 0 {
+        capture.body_into(&mut body)
+    } else {
+        capture.skip_body()
+    }
+}
+
+/// What is seen of the capture of three records with nanoseconds, where these four bytes were put at `at` and
+/// it was then cut to `len` bytes.
+fn read_changed<R: Abort + AllocGlobal>(
+    rt: &R,
+    at: u8,
+    with: [u8; 4],
+    len: usize,
+    limit: u32,
+) -> Seen {
+    let mut bytes = three(rt, &NANOSECONDS);
+    for i in 0..4 {
+        if let Some(byte) = bytes.get_mut(usize::from(at) + i) {
+            *byte = with[i];
+        }
+    }
+    bytes.truncate(len);
+    read(Parts { bytes, at: 0 }, limit)
+}
+
+fn expected(heads: u32, records: u32, stop: Stop) -> Seen {
+    let first = if heads > 0 { (STAMP, 60) } else { (0, 0) };
+    Seen {
+        heads,
+        records,
+        stamp: first.0,
+        wire: first.1,
+        stop,
+        stays: true,
+    }
+}
+
+const MAGIC: [u8; 4] = [0x4d, 0x3c, 0xb2, 0xa1];
+
+const ZERO: [u8; 4] = [0; 4];
+
+// Which bytes are changed, how many are left and how many records may be read; and then how many heads and
+// whole records are there, and the stop.
 #[test]
-fn captures_are_read_to_their_end(rt: HostRuntime) -> Result<(), Fail> {
-    for (len, limit, reads, records, stop) in [
-        (252, 3, 1000, 3, Stop::End),
-        (252, 1, 1000, 1, Stop::Fault(PcapFault::BadForm)),
-        (0, 3, 1000, 0, Stop::Fault(PcapFault::BadForm)),
-        (23, 3, 1000, 0, Stop::Fault(PcapFault::BadForm)),
-        (24, 3, 1000, 0, Stop::End),
-        (39, 3, 1000, 0, Stop::Fault(PcapFault::BadForm)),
-        (40, 3, 1000, 0, Stop::Fault(PcapFault::BadForm)),
-        (99, 3, 1000, 0, Stop::Fault(PcapFault::BadForm)),
-        (100, 3, 1000, 1, Stop::End),
-        (252, 3, 2, 0, Stop::Fault(PcapFault::Read)),
-        (252, 3, 5, 0, Stop::Fault(PcapFault::Read)),
-        (252, 3, 20, 1, Stop::Fault(PcapFault::Read)),
+fn a_capture_stops_where_its_fault_is(rt: HostRuntime) {
+    for (at, with, len, limit, heads, records, stop) in [
+        (0, MAGIC, 252, 3, 3, 3, Stop::End),
+        (0, MAGIC, 24, 3, 0, 0, Stop::End),
+        (0, MAGIC, 23, 3, 0, 0, Stop::Fault(PcapFault::CutHeader(23))),
+        (0, ZERO, 23, 3, 0, 0, Stop::Fault(PcapFault::CutHeader(23))),
+        (0, ZERO, 24, 3, 0, 0, Stop::Fault(PcapFault::BadMagic)),
+        (
+            4,
+            [3, 0, 4, 0],
+            252,
+            3,
+            0,
+            0,
+            Stop::Fault(PcapFault::BadVersion),
+        ),
+        (
+            4,
+            [2, 1, 4, 0],
+            252,
+            3,
+            0,
+            0,
+            Stop::Fault(PcapFault::BadVersion),
+        ),
+        (4, [2, 0, 9, 9], 252, 3, 3, 3, Stop::End),
+        (8, [1, 2, 3, 4], 252, 3, 3, 3, Stop::End),
+        (12, [1, 2, 3, 4], 252, 3, 3, 3, Stop::End),
+        (16, [1, 2, 3, 4], 252, 3, 3, 3, Stop::End),
+        (
+            20,
+            [113, 0, 0, 0],
+            252,
+            3,
+            0,
+            0,
+            Stop::Fault(PcapFault::BadLink),
+        ),
+        (
+            20,
+            [1, 1, 0, 0],
+            252,
+            3,
+            0,
+            0,
+            Stop::Fault(PcapFault::BadLink),
+        ),
+        (20, [1, 0, 5, 9], 252, 3, 3, 3, Stop::End),
+        (
+            0,
+            MAGIC,
+            202,
+            3,
+            3,
+            2,
+            Stop::Fault(PcapFault::CutRecord(176)),
+        ),
+        (0, MAGIC, 252, 1, 1, 1, Stop::Fault(PcapFault::TooMany(100))),
+        (0, MAGIC, 101, 1, 1, 1, Stop::Fault(PcapFault::TooMany(100))),
+        (0, MAGIC, 100, 1, 1, 1, Stop::End),
+        (0, MAGIC, 25, 0, 0, 0, Stop::Fault(PcapFault::TooMany(24))),
+        (0, MAGIC, 24, 0, 0, 0, Stop::End),
+        (
+            108,
+            [1, 0, 4, 0],
+            252,
+            1,
+            1,
+            1,
+            Stop::Fault(PcapFault::TooMany(100)),
+        ),
+        (
+            108,
+            [1, 0, 4, 0],
+            252,
+            3,
+            1,
+            1,
+            Stop::Fault(PcapFault::HugeRecord(100, 262_145)),
+        ),
+        (
+            108,
+            [1, 0, 4, 0],
+            116,
+            3,
+            1,
+            1,
+            Stop::Fault(PcapFault::HugeRecord(100, 262_145)),
+        ),
+        (
+            108,
+            [1, 0, 4, 0],
+            115,
+            3,
+            1,
+            1,
+            Stop::Fault(PcapFault::CutRecord(100)),
+        ),
+        (
+            108,
+            [0, 0, 4, 0],
+            252,
+            3,
+            2,
+            1,
+            Stop::Fault(PcapFault::CutRecord(100)),
+        ),
+        (
+            108,
+            [0xff; 4],
+            252,
+            3,
+            1,
+            1,
+            Stop::Fault(PcapFault::HugeRecord(100, 0xffff_ffff)),
+        ),
+        (108, ZERO, 116, 3, 2, 2, Stop::End),
     ] {
-        let mut bytes = three(rt.alloc())?;
-        bytes.truncate(len);
-        let found = count(source(bytes, reads), limit);
-        assert_eq!(rt;
-            found,
-            (records, stop),
-            "{len} bytes, {limit} records, {reads} reads"
+        let found = read_changed(&rt, at, with, len, limit);
+        same(
+            &rt,
+            &found,
+            &expected(heads, records, stop),
+            "a changed capture",
         );
     }
-    Ok(())
 }
 
 #[test]
-fn a_record_is_read(rt: HostRuntime) -> Result<(), Fail> {
-    let mut capture = open_capture(source(three(rt.alloc())?, 1000), 3).expect(&rt, "a header");
-    let head = capture
-        .next_head()
-        .expect(&rt, "a head")
-        .expect(&rt, "a record");
-    let want = Head {
-        index: 0,
-        offset: 24,
-        stamp: STAMP,
-        cap: 60,
-        wire: 60,
-    };
-    assert_eq!(rt; head, want);
-    let mut body = [0u8; 60];
-    assert_eq!(rt; head.cap, 60);
-    assert_eq!(rt; capture.body_into(&mut body), Ok(()));
-    assert_eq!(rt; body, [7u8; 60]);
-    Ok(())
+fn every_magic_number_is_read(rt: HostRuntime) {
+    for text in [NANOSECONDS, MICROSECONDS, BIG_NANOSECONDS, BIG_MICROSECONDS] {
+        let found = read(WholeSource::new(three(&rt, &text)), 3);
+        same(&rt, &found, &expected(3, 3, Stop::End), "three records");
+    }
 }
 
-fn written<K: Sink>(out: &mut K, body: &[u8; 60]) -> Result<(), PutFault> {
+// A fraction of a second or more is taken as it stands; the length on the line is the greater of the two.
+#[test]
+fn a_head_has_these_numbers(rt: HostRuntime) {
+    for (at, with, stamp, wire) in [
+        (28, [0xff; 4], 5_294_967_295, 60),
+        (24, [0xff; 4], 4_294_967_295_500_000_000, 60),
+        (36, [59, 0, 0, 0], STAMP, 60),
+        (36, [0xf2, 5, 0, 0], STAMP, 1522),
+    ] {
+        let wanted = Seen {
+            stamp,
+            wire,
+            ..expected(3, 3, Stop::End)
+        };
+        same(
+            &rt,
+            &read_changed(&rt, at, with, 252, 3),
+            &wanted,
+            "a first head",
+        );
+    }
+}
+
+// The records are of 76 bytes each, of which 16 are the head.
+#[test]
+fn a_capture_is_cut_at_each_byte(rt: HostRuntime) {
+    for len in 0..24u32 {
+        let wanted = expected(0, 0, Stop::Fault(PcapFault::CutHeader(len)));
+        same(
+            &rt,
+            &read_changed(&rt, 0, MAGIC, len as usize, 3),
+            &wanted,
+            "a cut header",
+        );
+    }
+    for len in 0..=228u32 {
+        let (whole, more) = (len / 76, len % 76);
+        let stop = if more == 0 {
+            Stop::End
+        } else {
+            Stop::Fault(PcapFault::CutRecord(u64::from(24 + 76 * whole)))
+        };
+        let wanted = expected(whole + u32::from(more >= 16), whole, stop);
+        same(
+            &rt,
+            &read_changed(&rt, 0, MAGIC, 24 + len as usize, 3),
+            &wanted,
+            "a cut record",
+        );
+    }
+}
+
+// The reads are of the header, and then of a head and a body in turn.
+#[test]
+fn a_read_fails(rt: HostRuntime) {
+    for (call, heads, records, stop) in [
+        (0, 0, 0, Stop::Fault(PcapFault::Read)),
+        (1, 0, 0, Stop::Fault(PcapFault::Read)),
+        (2, 1, 0, Stop::Fault(PcapFault::Read)),
+        (3, 1, 1, Stop::Fault(PcapFault::Read)),
+        (4, 2, 1, Stop::Fault(PcapFault::Read)),
+        (7, 3, 3, Stop::Fault(PcapFault::Read)),
+        (8, 3, 3, Stop::End),
+    ] {
+        let fails = vec![in rt.alloc(); call].expect(&rt, "memory");
+        let source = MemSource::new(three(&rt, &NANOSECONDS), fails);
+        same(
+            &rt,
+            &read(source, 3),
+            &expected(heads, records, stop),
+            "a failed read",
+        );
+    }
+}
+
+#[test]
+fn faults_have_numbers_and_offsets(rt: HostRuntime) {
+    for (fault, number, offset) in [
+        (PcapFault::BadMagic, 1, 0),
+        (PcapFault::BadVersion, 2, 0),
+        (PcapFault::BadLink, 3, 0),
+        (PcapFault::CutHeader(23), 4, 23),
+        (PcapFault::CutRecord(176), 5, 176),
+        (PcapFault::HugeRecord(24, 262_145), 6, 24),
+        (PcapFault::Read, 7, 0),
+        (PcapFault::TooMany(100), 8, 100),
+    ] {
+        same(
+            &rt,
+            &(fault.number(), fault.offset()),
+            &(number, offset),
+            "a fault",
+        );
+    }
+}
+
+fn put_one<K: Sink>(out: &mut K) -> Result<(), PutFault> {
     put_header(out)?;
-    put_record(out, STAMP, 60, body)
+    put_record(out, STAMP, 60, &[7; 60])
 }
 
+// The header is one put, and the record one of its head and one of its body.
 #[test]
-fn what_is_written_has_the_format(rt: HostRuntime) -> Result<(), Fail> {
-    let mut out = Held {
-        bytes: Vec::new(rt.alloc()),
-    };
-    written(&mut out, &[7; 60])?;
-    let mut first = three(rt.alloc())?;
-    first.truncate(100);
-    assert_eq!(rt; out.bytes.as_slice(), first.as_slice());
-    Ok(())
+fn what_is_written_has_the_format(rt: HostRuntime) {
+    for (call, answer, len) in [
+        (0, Err(PutFault::Failed), 0),
+        (1, Err(PutFault::Failed), 24),
+        (2, Err(PutFault::Failed), 40),
+        (3, Ok(()), 100),
+    ] {
+        let fails = vec![in rt.alloc(); call].expect(&rt, "memory");
+        let mut out = MemSink::new(rt.alloc(), fails);
+        same(&rt, &put_one(&mut out), &answer, "the answer");
+        let mut text = three(&rt, &NANOSECONDS);
+        text.truncate(len);
+        same(&rt, &out.bytes(), &text.as_slice(), "what is held");
+    }
+    let mut whole = WholeSink::new(rt.alloc());
+    same(
+        &rt,
+        &put_one(&mut whole),
+        &Ok(()),
+        "a sink that never fails",
+    );
 }
 
 #[test]
 fn laws_are_called() {
     laws::reads_one_way();
     laws::reads_back();
+    laws::first_stamps();
 }
