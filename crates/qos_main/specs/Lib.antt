@@ -14,3 +14,6 @@ pub mod Egress
 pub mod Receiver
 pub mod Halts
 pub mod Taken
+pub mod Status
+pub mod Report
+pub mod Outcome

@@ -2,6 +2,7 @@
 ghost use Rattle.std.specs.Prelude.{◌≡◌, ◌≤◌, ◌+◌, [], length, vec_capacity};
 ghost use Rattle.qos_main.specs.PortRun.{schedule};
 
+use crate::ended::PortEnd;
 use crate::mbuf::Mbuf;
 use crate::port_run::PortRun;
 use crate::send::Sender;
@@ -38,6 +39,7 @@ impl<K: Sink> Egress<K> {
     ghost use Rattle.qos_main.specs.Run.{arrival_time};
     ghost use Rattle.qos_main.specs.Sender.{StaysSender};
     ghost use Rattle.qos_main.specs.Egress.{Begins, Carries};
+    ghost use Rattle.qos_main.specs.Outcome.{HasCounts};
 
     // Dequeues at a moment, to which the clock has come, and hands on what is sent.
     fn dequeue(&mut self, now: u64) -> Result<(), NoMemory>
@@ -135,5 +137,22 @@ impl<K: Sink> Egress<K> {
     {
         let to = self.port.clock() + self.port.drain_time();
         self.advance(to)
+    }
+
+    /// Ends the run of the port, and gives its output back as far as it was written.
+    pub fn finish(self) -> (PortEnd, Sender<K>)
+        ensures journal { result.0.journal ≡ self.port.journal }
+        ensures counts { HasCounts self.port.journal (schedule self.port) result.0.counts }
+        ensures sent { result.0.counts.sent ≡ self.sender.sent }
+        ensures sender { result.1 ≡ self.sender }
+    {
+        let Egress {
+            port,
+            out: _,
+            sender,
+            slots: _,
+        } = self;
+        let end = port.finish(sender.sent, sender.unwritten);
+        (end, sender)
     }
 }

@@ -6,7 +6,7 @@ use qos_pcap::Stop;
 /// What a command ended with.
 #[derive(Debug, Drop)]
 pub struct Ended {
-    /// The program's exit status: 0, 2 usage, 4 read, 5 write, 6 capture, 7 memory.
+    /// The program's exit status: 0 fine, 2 usage, 4 read, 5 write, 6 capture, 7 memory.
     pub status: u8,
     /// One for each port; none where nothing was scheduled.
     pub ports: Sequence<PortEnd>,

@@ -1,9 +1,10 @@
 //! The port: one entry of its journal a call, an arrival or a dequeue at a moment of the pacing rule.
-ghost use Rattle.std.specs.Prelude.{◌≡◌, ◌≤◌, ◌<◌, ◌^◌, ◌++◌, [], ◌∷◌, length, max, IfOk, IfSome, IfNone, OnOk, OnErr, vec_capacity};
+ghost use Rattle.std.specs.Prelude.{◌≡◌, ◌≤◌, ◌<◌, ◌+◌, ◌^◌, ◌++◌, [], ◌∷◌, length, max, IfOk, IfSome, IfNone, OnOk, OnErr, vec_capacity};
 ghost use Rattle.std.specs.Option.{unwrap_or};
 ghost use Rattle.qos_main.specs.declared.entry.Entry.TheVariants.{Arrive};
 ghost use Rattle.qos_main.specs.Plan.{IsPlan};
 
+use crate::ended::{PortCounts, PortEnd};
 use crate::entry::Entry;
 use crate::limits::MAX_RECORDS;
 use crate::pacer::Pacer;
@@ -11,7 +12,7 @@ use crate::plan::Plan;
 use crate::tally::Tally;
 use port_sched::laws::dequeues_keep;
 use port_sched::{MTU, PlainSched};
-use qos_base::{Departure, NoMemory, Parcel, TailFull};
+use qos_base::{Departure, NoMemory, Parcel, Sequence, TailFull};
 use std::alloc::Global;
 use std::marker::Model;
 
@@ -38,7 +39,8 @@ impl<T: Parcel> Model for PortRun<T> {
 impl<T: Parcel> PortRun<T> {
     ghost use Rattle.qos_main.specs.Pacer.{PacerState, after_aim, next_in, after_at};
     ghost use Rattle.qos_main.specs.Schedule.{arrivals_of};
-    ghost use Rattle.qos_main.specs.PortRun.{RunState, new_run, schedule, after_entry_of, HasDequeued, IsTally};
+    ghost use Rattle.qos_main.specs.PortRun.{RunState, new_run, schedule, after_entry_of, HasDequeued};
+    ghost use Rattle.qos_main.specs.Outcome.{HasCounts};
 
     /// A port at its start. Its queue's memory is taken here.
     pub fn new(alloc: Global, plan: Plan) -> Result<PortRun<T>, NoMemory>
@@ -141,6 +143,35 @@ impl<T: Parcel> PortRun<T> {
                 self.tally.dropped += 1;
                 Ok(Some(parcel))
             }
+        }
+    }
+
+    /// Ends the run: its journal and its numbers, where so many of its sends were put whole and so many were
+    /// not.
+    pub fn finish(self, sent: u64, unwritten: u64) -> PortEnd
+        requires { sent + unwritten ≡ length (schedule self).sends }
+        ensures journal { result.journal ≡ self.journal }
+        ensures counts { HasCounts self.journal (schedule self) result.counts }
+        ensures sent { result.counts.sent ≡ sent }
+    {
+        let PortRun {
+            plan: _,
+            sched,
+            pacer: _,
+            journal,
+            tally,
+        } = self;
+        PortEnd {
+            journal: Sequence::of(journal),
+            counts: PortCounts {
+                arrived: tally.arrived,
+                sent,
+                left: sched.queued(),
+                tailfull: tally.dropped,
+                unwritten,
+                dequeues: tally.dequeues,
+                time: sched.time(),
+            },
         }
     }
 }
