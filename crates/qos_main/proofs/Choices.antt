@@ -1,5 +1,5 @@
 -- A choice by a comparison of two numbers.
-use Rattle.std.proofs.Common.{◌≡◌, ◌<◌, ◌≤◌, ◌⊎◌, ℕ, zero, suc, false, cond, eqb, leb, ltb, Result, Ok, Err, OnErr, refl, inl, inr, arith}
+use Rattle.std.proofs.Common.{◌≡◌, ◌<◌, ◌≤◌, ◌⊎◌, ℕ, zero, suc, false, cond, eqb, leb, ltb, Result, Ok, Err, OnOk, OnErr, refl, inl, inr, arith}
 use Rattle.std.proofs.lemmas.Bool.Decides.{nat_tests}
 
 pub if-le : {X : Type 0} (m n : ℕ) (x y : X) → m ≤ n → cond (leb m n) x y ≡ x
@@ -31,3 +31,13 @@ eqb-some n is = grind (arith, nat_tests)
 pub on_err : {A E P : Type 0} (r : Result A E) → P → OnErr r P
 on_err (Ok x) p = tt
 on_err (Err e) p = p
+
+-- what holds anyway holds of a success
+pub on_ok : {A E P : Type 0} (r : Result A E) → P → OnOk r P
+on_ok (Ok x) p = p
+on_ok (Err e) p = tt
+
+-- what follows from a fact about a failure
+pub on_err_from : {A E P Q : Type 0} (r : Result A E) → OnErr r P → (P → Q) → OnErr r Q
+on_err_from (Ok x) p from = tt
+on_err_from (Err e) p from = from p

@@ -92,8 +92,11 @@ StaysSender-then G a b c first second = record {
   origin = second.origin ∙ first.origin;
   line = second.line ∙ first.line;
   name = second.name ∙ first.name;
+  there = λ is. second.there (first.there is);
+  none = λ is. second.none (first.none is);
+  told = λ is. second.told (first.told is);
   fine = λ fine. second.fine (first.fine fine);
 }
 
 pub StaysSender-none : {K : Type 0} (G : Ghosts K) (a : Sender K) → StaysSender G a a
-StaysSender-none G a = record { origin = refl; line = refl; name = refl; fine = λ fine. fine }
+StaysSender-none G a = record { origin = refl; line = refl; name = refl; there = λ is. is; none = λ is. is; told = λ is. is; fine = λ fine. fine }

@@ -1,5 +1,5 @@
 -- What was taken of an input, a turn at a time.
-use Rattle.std.proofs.Common.{◌≡◌, ◌≤◌, ◌^◌, ℕ, ◌+◌, ◌-◌, cond, max, List, [], ◌∷◌, ◌++◌, length, refl, sym, ap, ◌∙◌, subst, append_assoc, length-append, arith}
+use Rattle.std.proofs.Common.{◌≡◌, ◌≤◌, ◌^◌, ℕ, ◌+◌, ◌-◌, cond, max, List, [], ◌∷◌, ◌++◌, length, Option, None, MatchOption, ◌⊎◌, refl, sym, ap, ◌∙◌, subst, append_assoc, length-append, arith}
 use Rattle.std.specs.List.{All}
 use Rattle.std.proofs.lemmas.List.{append-nil}
 use Rattle.qos_base.specs.Time.{byte_time_of, moment_of}
@@ -10,7 +10,10 @@ use Rattle.qos_base.specs.declared.reason.Reason.TheVariants.{Unparsed, Unmatche
 use Rattle.qos_io.specs.declared.sink.Sink.{Ghosts as Sinks}
 use Rattle.qos_io.specs.declared.source.Source.{Ghosts as Sources}
 use Rattle.qos_pcap.specs.declared.fault.Stop.{Stop}
+use Rattle.qos_pcap.specs.declared.fault.Stop.TheVariants.{NotOpened}
+use Rattle.qos_pcap.specs.declared.head.Head.{Head}
 use Rattle.qos_pcap.specs.Format.{Record}
+use Rattle.qos_pcap.specs.Given.{StillGives}
 use Rattle.qos_main.specs.declared.plan.Plan.{Plan}
 use Rattle.qos_main.specs.declared.entry.Entry.{Entry}
 use Rattle.qos_main.specs.declared.fate.Fate.{Fate}
@@ -27,10 +30,10 @@ use Rattle.qos_main.specs.Paced.{Course, advance, after_arrival, open_course}
 use Rattle.qos_main.specs.PortRun.{RunState, course_of, schedule, IsBetween}
 use Rattle.qos_main.specs.Run.{arrival_time, open_journal, paced_journal}
 use Rattle.qos_main.specs.Mbuf.{IsBodyIn}
-use Rattle.qos_main.specs.Receiver.{IsReading, IsFine, ToCome, Gives, Adds, Counted}
+use Rattle.qos_main.specs.Receiver.{IsReadFault, IsReading, IsFine, ToCome, Gives, Adds, Counted}
 use Rattle.qos_main.specs.Sender.{HasWritten, StaysSender}
 use Rattle.qos_main.specs.Egress.{Begins, Carries}
-use Rattle.qos_main.specs.Taken.{HasTaken, HasComeTo, HasHalted, Goes}
+use Rattle.qos_main.specs.Taken.{HasTaken, HasComeTo, HasHalted, Goes, Took}
 use Rattle.qos_main.proofs.Records.{admitted-push, lost_for-push, read-push, parts-push, body-next}
 use Rattle.qos_main.proofs.Opens.{open_course-push}
 use Rattle.qos_main.proofs.Arrivals.{Begins-then}
@@ -151,8 +154,8 @@ module _ {S K : Type 0} (F : Sources S) (G : Sinks K) where
 
   module _ (first rx next : Receiver S F) (start e f : Egress K G) where
     -- a turn in which nothing arrived
-    pub goes-on : SameEgress e f → (lost : ℕ) → next.read ≡ rx.read + lost → next.too_long + next.oversize ≡ rx.too_long + rx.oversize + lost → IsReading F next → next.origin ≡ rx.origin → (IsFine F rx → IsFine F next) → Goes F G first start rx e → Goes F G first start next f
-    goes-on same lost read sorted reading origin fine goes =
+    pub goes-on : SameEgress e f → (lost : ℕ) → next.read ≡ rx.read + lost → next.too_long + next.oversize ≡ rx.too_long + rx.oversize + lost → IsReading F next → next.origin ≡ rx.origin → (IsFine F rx → IsFine F next) → (next.stopped ≡ NotOpened → (rx.stopped ≡ NotOpened) × (next.read ≡ rx.read)) → (rx.head ≡ None → next ≡ rx) → Goes F G first start rx e → Goes F G first start next f
+    goes-on same lost read sorted reading origin fine opened still goes =
         let account = goes.account in
         let port = same.port in
         record {
@@ -165,13 +168,15 @@ module _ {S K : Type 0} (F : Sources S) (G : Sinks K) where
           origin = origin ∙ goes.origin;
           stays = subst (StaysSender G start.sender) (sym same.sender) goes.stays;
           fine = λ was. fine (goes.fine was);
+          opened = λ is. let was = opened is in was.1 ∙ goes.opened was.0;
+          still = λ none. let was = goes.still none in still (ap (λ (x : Receiver S F). x.head) was ∙ none) ∙ was;
         }
 
     -- a turn in which a packet arrived
     pub goes-arrived : (m : Mbuf) (at : ℕ) → Adds 1 0 0 rx next → IsReading F next → next.origin ≡ rx.origin → (IsFine F rx → IsFine F next) → at ≡ arrival_time e.port.plan first.origin m.pkt → at ≤ 2 ^ 54
         → course_of f.port ≡ after_arrival e.port.plan at m.pkt (course_of e.port) → arrivals_of f.port.journal ≡ arrivals_of e.port.journal ++ m.pkt ∷ [] → f.port.pacer.clock ≡ max e.port.pacer.clock at → IsBetween f.port → f.port.plan ≡ e.port.plan → StaysSender G e.sender f.sender
-        → Goes F G first start rx e → Goes F G first start next f
-    goes-arrived m at adds reading origin fine moment early course arrivals clock between plan stays goes =
+        → (next.stopped ≡ NotOpened → (rx.stopped ≡ NotOpened) × (next.read ≡ rx.read)) → (rx.head ≡ None → next ≡ rx) → Goes F G first start rx e → Goes F G first start next f
+    goes-arrived m at adds reading origin fine moment early course arrivals clock between plan stays opened still goes =
         let byte_time : Plan → Pkt → ℕ = λ p. arrival_time p first.origin in
         let before = arrivals_of e.port.journal in
         let was = goes.clock in
@@ -194,6 +199,8 @@ module _ {S K : Type 0} (F : Sources S) (G : Sinks K) where
           origin = origin ∙ goes.origin;
           stays = StaysSender-then G start.sender e.sender f.sender goes.stays stays;
           fine = λ ok. fine (goes.fine ok);
+          opened = λ is. let was = opened is in was.1 ∙ goes.opened was.0;
+          still = λ none. let was = goes.still none in still (ap (λ (x : Receiver S F). x.head) was ∙ none) ∙ was;
         }
 
   -- a run that was refused memory between two packets
@@ -253,3 +260,41 @@ lost-adds rx next TailFull never = absurd never
 pub moment-is : (at origin now line : ℕ) (plan : Plan) (p : Pkt) → at ≡ byte_time_of (moment_of now p.stamp) line → now ≡ origin → line ≡ plan.line → at ≡ arrival_time plan origin p
 moment-is at origin now line plan p is same_origin same_line =
     is ∙ ap (λ n. byte_time_of (moment_of n p.stamp) line) same_origin ∙ ap (byte_time_of (moment_of origin p.stamp)) same_line
+
+module _ {S K : Type 0} (F : Sources S) (G : Sinks K) where
+  -- an input that has stopped still gives nothing
+  pub stopped-there : (rx : Receiver S F) (rest : List Record) (stop : Stop) → rx.head ≡ None → ToCome F rx rest stop → IsReadFault rx.stopped ⊎ ((rest ≡ []) × (rx.stopped ≡ stop))
+  stopped-there rx rest stop none come =
+      subst (λ (head : Option Head). MatchOption head (IsReadFault rx.stopped ⊎ ((rest ≡ []) × (rx.stopped ≡ stop))) (λ h. MatchOption rx.capture ⊥ (λ c. StillGives F.remaining c rest stop))) none come
+
+  -- what was taken, once the port is drained
+  pub took-drained : (records : List Record) (stop : Stop) (rx : Receiver S F) (e f : Egress K G) → rx.head ≡ None → arrivals_of f.port.journal ≡ arrivals_of e.port.journal → ((body : ℕ → List ℕ) → Carries G body e → Carries G body f)
+      → HasComeTo F G records stop rx e → Took records stop rx f.port.journal × Carries G (body_at records) f
+  took-drained records stop rx e f none arrivals carries come = (
+    record {
+      given = come.done;
+      rest = come.rest;
+      parts = come.parts;
+      stopped = stopped-there rx come.rest stop none come.to_come;
+      read = come.taken.read;
+      too_long = come.taken.too_long;
+      oversize = come.taken.oversize;
+      merge = arrivals ∙ come.taken.arrivals;
+    },
+    carries (body_at records) come.taken.carries,
+  )
+
+  -- a run that was refused memory while the port was drained
+  pub halted-draining : (records : List Record) (stop : Stop) (first rx : Receiver S F) (start e f : Egress K G) → Goes F G first start rx e → Begins f.port.journal (advance e.port.plan (e.port.pacer.clock + e.port.plan.drain) (course_of e.port)).journal → f.port.plan ≡ e.port.plan
+      → ((body : ℕ → List ℕ) → Carries G body e → Carries G body f) → HasComeTo F G records stop rx e → HasHalted F G first.origin records f
+  halted-draining records stop first rx start e f goes begins plan carries come =
+      let byte_time : Pkt → ℕ = arrival_time e.port.plan first.origin in
+      let whole : (advance e.port.plan (e.port.pacer.clock + e.port.plan.drain) (course_of e.port)).journal ≡ paced_journal e.port.plan first.origin (admitted come.done) =
+      ap (λ (c : Course). (advance e.port.plan (c.clock + e.port.plan.drain) c).journal) (goes.course ∙ ap (open_course e.port.plan byte_time) come.taken.arrivals) in
+      record {
+        given = come.done;
+        rest = come.rest;
+        parts = come.parts;
+        begins = subst (λ (p : Plan). Begins f.port.journal (paced_journal p first.origin (admitted come.done))) (sym plan) (subst (λ js. Begins f.port.journal js) whole begins);
+        carries = carries (body_at records) come.taken.carries;
+      }

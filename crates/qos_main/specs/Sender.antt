@@ -1,12 +1,16 @@
 -- What a sender promises of its output.
 use Rattle.std.specs.Prelude.{◌≡◌, ℕ, List, Option, None, Some, IsSome, IfSome, MatchOption}
-use Rattle.std.specs.Option.{option_map}
 use Rattle.qos_base.specs.declared.packet.Pkt.{Pkt}
 use Rattle.qos_base.specs.declared.packet.Departure.{Departure}
 use Rattle.qos_io.specs.declared.sink.Sink.{Ghosts}
 use Rattle.qos_io.specs.declared.sink.PutFault.TheVariants.{Failed}
 use Rattle.qos_main.specs.declared.send.Sender.{Sender}
 use Rattle.qos_main.specs.Output.{Target, IsWhole, IsCut}
+
+-- the name of the file that a sink writes, if there is a sink and it has one
+abbrev pub name_in : {K : Type 0} → (K → Option (List ℕ)) → Option K → Option (List ℕ)
+name_in name None = None
+name_in name (Some k) = name k
 
 -- how a sender's sends are written
 abbrev pub target_of : {K : Type 0} → Sender K → (ℕ → List ℕ) → Target
@@ -27,9 +31,16 @@ module _ {K : Type 0} (G : Ghosts K) where
     pub sure : IfSome s.sink G.IsSure
     pub none_failed : s.fault ≡ Some Failed → ⊥
 
+  -- its sink tells what it holds, if there is one
+  abbrev pub IsTold : Sender K → Type 0
+  IsTold s = IfSome s.sink (λ k. IsSome (G.contents k))
+
   -- what no call of it changes
   pub record StaysSender (before after : Sender K) : Type 0 where
     pub origin : after.origin ≡ before.origin
     pub line : after.line ≡ before.line
-    pub name : option_map G.name after.sink ≡ option_map G.name before.sink
+    pub name : name_in G.name after.sink ≡ name_in G.name before.sink
+    pub there : IsSome before.sink → IsSome after.sink
+    pub none : before.sink ≡ None → after.sink ≡ None
+    pub told : IsTold before → IsTold after
     pub fine : IsFine before → IsFine after

@@ -1,9 +1,11 @@
 -- What was taken of an input: the records so far, and what became of them.
-use Rattle.std.specs.Prelude.{◌≡◌, ◌≤◌, ◌^◌, ℕ, ◌+◌, List, ◌++◌, length}
+use Rattle.std.specs.Prelude.{◌≡◌, ◌≤◌, ◌⊎◌, ◌^◌, ℕ, ◌+◌, List, [], ◌++◌, length, None}
 use Rattle.qos_io.specs.declared.sink.Sink.{Ghosts as Sinks}
 use Rattle.qos_io.specs.declared.source.Source.{Ghosts as Sources}
 use Rattle.qos_pcap.specs.declared.fault.Stop.{Stop}
+use Rattle.qos_pcap.specs.declared.fault.Stop.TheVariants.{NotOpened}
 use Rattle.qos_pcap.specs.Format.{Record}
+use Rattle.qos_main.specs.declared.entry.Entry.{Entry}
 use Rattle.qos_main.specs.declared.egress.Egress.{Egress}
 use Rattle.qos_main.specs.declared.receive.Receiver.{Receiver}
 use Rattle.qos_main.specs.Fate.{lost_for, admitted, body_at}
@@ -11,7 +13,7 @@ use Rattle.qos_main.specs.Schedule.{arrivals_of}
 use Rattle.qos_main.specs.Paced.{open_course}
 use Rattle.qos_main.specs.PortRun.{course_of, IsBetween}
 use Rattle.qos_main.specs.Run.{arrival_time, paced_journal}
-use Rattle.qos_main.specs.Receiver.{IsReading, IsFine, ToCome}
+use Rattle.qos_main.specs.Receiver.{IsReadFault, IsReading, IsFine, ToCome}
 use Rattle.qos_main.specs.Sender.{StaysSender}
 use Rattle.qos_main.specs.Egress.{Begins, Carries}
 
@@ -51,3 +53,18 @@ module _ {S K : Type 0} (F : Sources S) (G : Sinks K) where
     pub origin : rx.origin ≡ first.origin
     pub stays : StaysSender G start.sender e.sender
     pub fine : IsFine F first → IsFine F rx
+    -- an input that was not opened gives no record, and one that had stopped stays as it was
+    pub opened : rx.stopped ≡ NotOpened → rx.read ≡ 0
+    pub still : first.head ≡ None → rx ≡ first
+
+-- The records that an input gave of those that it has, and what became of them: how it stopped, how many are lost for each
+-- reason, and the arrivals of the journal.
+pub record Took {S : Type 0} {F : Sources S} (records : List Record) (stop : Stop) (rx : Receiver S F) (journal : List Entry) : Type 0 where
+  pub given : List Record
+  pub rest : List Record
+  pub parts : records ≡ given ++ rest
+  pub stopped : IsReadFault rx.stopped ⊎ ((rest ≡ []) × (rx.stopped ≡ stop))
+  pub read : rx.read ≡ length given
+  pub too_long : rx.too_long ≡ lost_for 4 given
+  pub oversize : rx.oversize ≡ lost_for 3 given
+  pub merge : arrivals_of journal ≡ admitted given

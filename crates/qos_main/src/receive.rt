@@ -173,6 +173,8 @@ impl<S: Source> Receiver<S> {
         ensures counted { IfOk result (Counted self.old self.new) }
         ensures origin { self.new.origin ≡ self.old.origin }
         ensures fine { IsFine S.Source self.old → IsFine S.Source self.new }
+        ensures opened { self.new.stopped ≡ Stop.NotOpened → (self.old.stopped ≡ Stop.NotOpened) × (self.new.read ≡ self.old.read) }
+        ensures still { self.old.head ≡ None → self.new ≡ self.old }
     {
         let Some(head) = self.head else {
             return Ok(Received::Stopped);

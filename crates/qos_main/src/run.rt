@@ -1,5 +1,5 @@
 //! A run: receive, the port and send take turns, one packet after another.
-ghost use Rattle.std.specs.Prelude.{◌≡◌, ◌≤◌, ◌^◌, List, None, OnOk, OnErr, length};
+ghost use Rattle.std.specs.Prelude.{◌≡◌, ◌≤◌, ◌+◌, ◌^◌, List, None, OnOk, OnErr, length};
 ghost use Rattle.qos_base.specs.Time.{IsLineRate, byte_time_of, moment_of};
 ghost use Rattle.qos_base.specs.declared.packet.Pkt.{Pkt};
 ghost use Rattle.qos_pcap.specs.Format.{Record};
@@ -8,7 +8,9 @@ ghost use Rattle.qos_main.specs.Schedule.{arrivals_of};
 ghost use Rattle.qos_main.specs.Run.{arrival_time, paced_journal};
 ghost use Rattle.qos_main.specs.Receiver.{IsReading, IsFine, ToCome};
 ghost use Rattle.qos_main.specs.Sender.{StaysSender};
-ghost use Rattle.qos_main.specs.Taken.{HasComeTo, HasHalted, Goes};
+ghost use Rattle.qos_main.specs.Egress.{Carries};
+ghost use Rattle.qos_main.specs.Fate.{body_at};
+ghost use Rattle.qos_main.specs.Taken.{HasComeTo, HasHalted, Goes, Took};
 
 use crate::egress::Egress;
 use crate::receive::{Received, Receiver};
@@ -50,4 +52,31 @@ fn take_all<S: Source, K: Sink>(
             }
         }
     }
+}
+
+/// Runs an input through a port to its end: each admitted packet arrives at its moment, in the input's order, and
+/// after the last the port is drained.
+///
+/// `NoMemory`: the journal, or a slot, was refused memory, and the run is over.
+pub fn run_port<S: Source, K: Sink>(
+    input: &mut Receiver<S>,
+    egress: &mut Egress<K>,
+) -> Result<(), NoMemory>
+    requires fresh { Goes S.Source K.Sink input.old egress.old input.old egress.old }
+    requires plan { IsPlan egress.old.port.plan }
+    requires line { egress.old.sender.line ≡ egress.old.port.plan.line }
+    ensures paced { OnOk result (egress.new.port.journal ≡ paced_journal egress.old.port.plan input.old.origin (arrivals_of egress.new.port.journal)) }
+    ensures plan { OnOk result (egress.new.port.plan ≡ egress.old.port.plan) }
+    ensures account { OnOk result (input.new.read ≡ length (arrivals_of egress.new.port.journal) + input.new.too_long + input.new.oversize) }
+    ensures took { OnOk result ((records : List Record) (stop : Stop) → HasComeTo S.Source K.Sink records stop input.old egress.old
+        → Took records stop input.new egress.new.port.journal × Carries K.Sink (body_at records) egress.new) }
+    ensures halted { OnErr result ((records : List Record) (stop : Stop) → HasComeTo S.Source K.Sink records stop input.old egress.old → HasHalted S.Source K.Sink input.old.origin records egress.new) }
+    ensures stays { StaysSender K.Sink egress.old.sender egress.new.sender }
+    ensures origin { OnOk result (input.new.origin ≡ input.old.origin) }
+    ensures fine { OnOk result (IsFine S.Source input.old → IsFine S.Source input.new) }
+    ensures opened { OnOk result (input.new.stopped ≡ Stop.NotOpened → input.new.read ≡ 0) }
+    ensures still { OnOk result (input.old.head ≡ None → input.new ≡ input.old) }
+{
+    take_all(input, egress)?;
+    egress.drain()
 }

@@ -1,6 +1,5 @@
 //! Send: what is sent is put into the output and counted, and the first fault is kept.
 ghost use Rattle.std.specs.Prelude.{◌≡◌, ◌≤◌, ◌<◌, ◌+◌, ◌^◌, ◌++◌, [], ◌∷◌, ℕ, List, All, Some, None, map, length, IsErrOf, OnOk, OnErr, IfSome, IsSome};
-ghost use Rattle.std.specs.Option.{option_map};
 ghost use Rattle.qos_base.specs.Time.{IsLineRate};
 ghost use Rattle.qos_base.specs.declared.packet.Departure.{Departure};
 ghost use Rattle.qos_base.specs.declared.packet.Pkt.{Pkt};
@@ -9,7 +8,7 @@ ghost use Rattle.qos_io.specs.Fault.{Counts};
 ghost use Rattle.qos_main.specs.declared.mbuf.Mbuf.{Mbuf};
 ghost use Rattle.qos_main.specs.Mbuf.{IsBodyIn, seen};
 ghost use Rattle.qos_main.specs.Output.{Target, send_text};
-ghost use Rattle.qos_main.specs.Sender.{HasWritten, IsFine, StaysSender};
+ghost use Rattle.qos_main.specs.Sender.{HasWritten, IsFine, IsTold, StaysSender, name_in};
 
 use crate::mbuf::Mbuf;
 use qos_base::{Departure, send_stamp};
@@ -41,7 +40,10 @@ impl<K: Sink> Sender<K> {
         ensures written { ((k : K) (held : List ℕ) → sink ≡ Some k → K.contents k ≡ Some held → held ≡ []) → (body : ℕ → List ℕ) → HasWritten K.Sink body [] result }
         ensures numbers { (result.sent ≡ 0) × (result.unwritten ≡ 0) }
         ensures stamps { (result.origin ≡ origin) × (result.line ≡ line) }
-        ensures name { option_map K.name result.sink ≡ option_map K.name sink }
+        ensures name { name_in K.name result.sink ≡ name_in K.name sink }
+        ensures there { IsSome sink → IsSome result.sink }
+        ensures told { IfSome sink (λ k. IsSome (K.contents k)) → IsTold K.Sink result }
+        ensures none { sink ≡ None → result.sink ≡ None }
         ensures fine { IsSome sink → IfSome sink K.IsSure → IsFine K.Sink result }
     {
         let Some(mut sink) = sink else {
@@ -116,6 +118,7 @@ fn put_send<K: Sink>(
     requires { IsLineRate line }
     ensures added { (body : ℕ → List ℕ) → IsBodyIn body departure.now.parcel → OnOk result (K.contents out.new ≡ held_after (send_text (record { origin = origin; line = line; body = body }) (seen departure.now)) (K.contents out.old)) }
     ensures refused { (body : ℕ → List ℕ) → IsBodyIn body departure.now.parcel → OnErr result (PutSome (send_text (record { origin = origin; line = line; body = body }) (seen departure.now)) (K.contents out.old) (K.contents out.new)) }
+    ensures told { IsSome (K.contents out.old) → IsSome (K.contents out.new) }
     ensures name { K.name out.new ≡ K.name out.old }
     ensures faults { Counts K.faults K.IsSure out.old out.new (IsErrOf result PutFault.Failed) }
 {

@@ -4,11 +4,11 @@ use Rattle.qos_base.specs.declared.packet.Pkt.{Pkt}
 use Rattle.qos_pcap.specs.declared.fault.Stop.{Stop}
 use Rattle.qos_pcap.specs.Format.{Record}
 use Rattle.qos_main.specs.declared.receive.Received.{Received}
-use Rattle.qos_main.specs.declared.receive.Received.TheVariants.{Admitted as Packet, Lost as Gone}
+use Rattle.qos_main.specs.declared.receive.Received.TheVariants.{Admitted as Packet, Lost as Gone, Stopped as Nothing}
 use Rattle.qos_main.specs.Receiver.{ToCome, Gives, Counted}
 use Rattle.qos_main.specs.declared.plan.Plan.{Plan}
 use Rattle.qos_main.proofs.Choices.{on_err}
-use Rattle.qos_main.proofs.Takes.{SameEgress, come-lost, come-admitted, goes-on, goes-arrived, halted-between, halted-arriving, lost-adds, moment-is, carries-same}
+use Rattle.qos_main.proofs.Takes.{SameEgress, come-lost, come-admitted, come-stopped, goes-on, goes-arrived, halted-between, halted-arriving, lost-adds, moment-is, carries-same}
 use Rattle.qos_main.proofs.run.take_all.Goals as goal
 
 pub returns-in_err-turn-clause-halted : goal.returns-in_err-turn-clause-halted
@@ -29,7 +29,7 @@ loop-mbuf-preserved-in-Lost g c =
     let gives = subst DoesGive c.in-Lost.is c.in_ok-turn.ensures.received in
     let adds = lost-adds rx next reason counted in
     record {
-      goes = goes-on g.S.Source g.K.Sink c.args.input.now rx next c.args.egress.now c.loop-mbuf.egress _ (record { port = refl; sender = refl }) 1 adds.0 adds.1 c.in_ok-turn.ensures.reading c.in_ok-turn.ensures.origin c.in_ok-turn.ensures.fine c.loop-mbuf.invariant.goes;
+      goes = goes-on g.S.Source g.K.Sink c.args.input.now rx next c.args.egress.now c.loop-mbuf.egress _ (record { port = refl; sender = refl }) 1 adds.0 adds.1 c.in_ok-turn.ensures.reading c.in_ok-turn.ensures.origin c.in_ok-turn.ensures.fine c.in_ok-turn.ensures.opened c.in_ok-turn.ensures.still c.loop-mbuf.invariant.goes;
       come = λ records stop come. come-lost g.S.Source g.K.Sink records stop rx next c.loop-mbuf.egress _ reason counted (record { port = refl; sender = refl }) gives (c.loop-mbuf.invariant.come records stop come);
     }
 
@@ -51,7 +51,7 @@ loop-mbuf-preserved g c =
     let gives = subst DoesGive c.in-Admitted.is t.received in
     let moment = moment-is c.arrival-at.result first.origin next.origin start.sender.line e.port.plan m.pkt c.arrival-at.ensures.exact (t.origin ∙ goes.origin) (c.requires.line ∙ sym (ap (λ (p : Plan). p.line) goes.plan)) in
     record {
-      goes = goes-arrived g.S.Source g.K.Sink first rx next start e f m c.arrival-at.result counted.0 t.reading t.origin t.fine moment c.arrival-at.ensures.within a.course a.arrivals a.clock a.between a.plan a.stays goes;
+      goes = goes-arrived g.S.Source g.K.Sink first rx next start e f m c.arrival-at.result counted.0 t.reading t.origin t.fine moment c.arrival-at.ensures.within a.course a.arrivals a.clock a.between a.plan a.stays t.opened t.still goes;
       come = λ records stop come.
           come-admitted g.S.Source g.K.Sink records stop rx next e f m counted a.arrivals
           (λ body is carries. a.carries body is (carries-same g.S.Source g.K.Sink body e _ (record { port = refl; sender = refl }) carries)) gives (c.loop-mbuf.invariant.come records stop come);
@@ -74,3 +74,14 @@ returns-in_err-arrive-in-Admitted-clause-halted g c =
     (λ records stop come.
     halted-arriving g.S.Source g.K.Sink records stop first rx next start e c.arrive.new.self m c.arrival-at.result moment a.refused a.plan
     (λ body is carries. a.carries body is (carries-same g.S.Source g.K.Sink body e _ (record { port = refl; sender = refl }) carries)) gives goes (c.loop-mbuf.invariant.come records stop come))
+
+pub returns-in-Stopped-clause-come : goal.returns-in-Stopped-clause-come
+returns-in-Stopped-clause-come g c = λ records stop come.
+    let rx = c.loop-mbuf.input in
+    let next = c.turn.new.self in
+    let IsCounted : Received → Type 0 = λ x. Counted rx next x in
+    let DoesGive : Received → Type 0 = λ x. (rs : List Record) (st : Stop) → ToCome g.S.Source rx rs st → Gives g.S.Source next x rx.read rs st in
+    let counted : Counted rx next Nothing = subst IsCounted c.in-Stopped.is c.in_ok-turn.ensures.counted in
+    let gives = subst DoesGive c.in-Stopped.is c.in_ok-turn.ensures.received in
+    come-stopped g.S.Source g.K.Sink records stop rx next c.loop-mbuf.egress _ (record { port = refl; sender = refl })
+    (omega (arith, counted.0.read_is)) (omega (arith, counted.0.too_long_is)) (omega (arith, counted.0.oversize_is)) gives (c.loop-mbuf.invariant.come records stop come)
