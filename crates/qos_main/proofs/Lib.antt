@@ -14,3 +14,4 @@ pub mod Frames
 pub mod Records
 pub mod Opens
 pub mod Takes
+pub mod Closings

@@ -1,7 +1,9 @@
 -- What was taken of an input, a turn at a time.
-use Rattle.std.proofs.Common.{◌≡◌, ◌≤◌, ◌^◌, ℕ, ◌+◌, ◌-◌, cond, max, List, [], ◌∷◌, ◌++◌, length, Option, None, MatchOption, ◌⊎◌, refl, sym, ap, ◌∙◌, subst, append_assoc, length-append, arith}
+use Rattle.std.proofs.Common.{◌≡◌, ◌≤◌, ◌^◌, ℕ, ◌+◌, ◌-◌, cond, max, List, [], ◌∷◌, ◌++◌, length, Option, None, MatchOption, Result, Ok, Err, OnOk, OnErr, ◌⊎◌, refl, sym, ap, ◌∙◌, subst, append_assoc, length-append, arith}
 use Rattle.std.specs.List.{All}
 use Rattle.std.proofs.lemmas.List.{append-nil}
+use Rattle.std.proofs.lemmas.List.Elements.{All-nil}
+use Rattle.qos_base.specs.declared.memory.NoMemory.{NoMemory}
 use Rattle.qos_base.specs.Time.{byte_time_of, moment_of}
 use Rattle.qos_base.specs.declared.packet.Pkt.{Pkt}
 use Rattle.qos_base.specs.declared.packet.Departure.{Departure}
@@ -25,19 +27,19 @@ use Rattle.qos_main.specs.declared.receive.Received.TheVariants.{Admitted as Pac
 use Rattle.qos_main.specs.declared.receive.Receiver.{Receiver}
 use Rattle.qos_main.specs.Pacer.{step_to}
 use Rattle.qos_main.specs.Fate.{fate_of, is_lost, lost_for, packet_of, packet_if, admitted, body_at}
-use Rattle.qos_main.specs.Schedule.{arrivals_of}
+use Rattle.qos_main.specs.Schedule.{schedule_of, arrivals_of}
 use Rattle.qos_main.specs.Paced.{Course, advance, after_arrival, open_course}
-use Rattle.qos_main.specs.PortRun.{RunState, course_of, schedule, IsBetween}
+use Rattle.qos_main.specs.PortRun.{RunState, new_run, course_of, schedule, IsBetween}
 use Rattle.qos_main.specs.Run.{arrival_time, open_journal, paced_journal}
 use Rattle.qos_main.specs.Mbuf.{IsBodyIn}
-use Rattle.qos_main.specs.Receiver.{IsReadFault, IsReading, IsFine, ToCome, Gives, Adds, Counted}
+use Rattle.qos_main.specs.Receiver.{IsReadFault, IsReading, IsFine, IsFresh, ToCome, Gives, Adds, Counted}
 use Rattle.qos_main.specs.Sender.{HasWritten, StaysSender}
 use Rattle.qos_main.specs.Egress.{Begins, Carries}
 use Rattle.qos_main.specs.Taken.{HasTaken, HasComeTo, HasHalted, Goes, Took}
 use Rattle.qos_main.proofs.Records.{admitted-push, lost_for-push, read-push, parts-push, body-next}
-use Rattle.qos_main.proofs.Opens.{open_course-push}
-use Rattle.qos_main.proofs.Arrivals.{Begins-then}
-use Rattle.qos_main.proofs.Senders.{StaysSender-then}
+use Rattle.qos_main.proofs.Opens.{open_course-push, open_course-nil}
+use Rattle.qos_main.proofs.Arrivals.{Begins-then, Begins-same}
+use Rattle.qos_main.proofs.Senders.{StaysSender-none, StaysSender-then}
 use Rattle.qos_main.proofs.Lives.{advance_by-grows}
 
 -- an open journal begins the paced one
@@ -204,12 +206,13 @@ module _ {S K : Type 0} (F : Sources S) (G : Sinks K) where
         }
 
   -- a run that was refused memory between two packets
-  pub halted-between : (records : List Record) (stop : Stop) (first rx : Receiver S F) (start e f : Egress K G) → SameEgress e f → Goes F G first start rx e → HasComeTo F G records stop rx e → HasHalted F G first.origin records f
+  pub halted-between : (records : List Record) (stop : Stop) (first rx : Receiver S F) (start e f : Egress K G) → SameEgress e f → Goes F G first start rx e → HasComeTo F G records stop rx e → HasHalted F G start.port.plan first.origin records f
   halted-between records stop first rx start e f same goes come =
       let IsBegun : RunState Mbuf → Type 0 = λ p. Begins p.journal (paced_journal p.plan first.origin (admitted come.done)) in
       let journal : e.port.journal ≡ open_journal e.port.plan first.origin (admitted come.done) =
       ap (λ (c : Course). c.journal) goes.course ∙ ap (open_journal e.port.plan first.origin) come.taken.arrivals in
       record {
+        plan_is = ap (λ (p : RunState Mbuf). p.plan) same.port ∙ goes.plan;
         given = come.done;
         rest = come.rest;
         parts = come.parts;
@@ -221,7 +224,7 @@ module _ {S K : Type 0} (F : Sources S) (G : Sinks K) where
   pub halted-arriving : (records : List Record) (stop : Stop) (first rx next : Receiver S F) (start e f : Egress K G) (m : Mbuf) (at : ℕ) → at ≡ arrival_time e.port.plan first.origin m.pkt
       → Begins f.port.journal (after_arrival e.port.plan at m.pkt (course_of e.port)).journal → f.port.plan ≡ e.port.plan
       → ((body : ℕ → List ℕ) → IsBodyIn body m → Carries G body e → Carries G body f)
-      → ((rs : List Record) (st : Stop) → ToCome F rx rs st → Gives F next (Packet m) rx.read rs st) → Goes F G first start rx e → HasComeTo F G records stop rx e → HasHalted F G first.origin records f
+      → ((rs : List Record) (st : Stop) → ToCome F rx rs st → Gives F next (Packet m) rx.read rs st) → Goes F G first start rx e → HasComeTo F G records stop rx e → HasHalted F G start.port.plan first.origin records f
   halted-arriving records stop first rx next start e f m at moment begins plan carries gives goes come =
       let given = gives come.rest stop come.to_come in
       let r = given.0 in
@@ -237,6 +240,7 @@ module _ {S K : Type 0} (F : Sources S) (G : Sinks K) where
       ∙ sym (open_course-push e.port.plan byte_time before m.pkt) ∙ ap (open_course e.port.plan byte_time) all) in
       let paced = paced_journal e.port.plan first.origin (admitted (come.done ++ r ∷ [])) in
       record {
+        plan_is = plan ∙ goes.plan;
         given = come.done ++ r ∷ [];
         rest = given.1;
         parts = parts-push records come.done come.rest given.1 r come.parts given.2;
@@ -286,15 +290,74 @@ module _ {S K : Type 0} (F : Sources S) (G : Sinks K) where
 
   -- a run that was refused memory while the port was drained
   pub halted-draining : (records : List Record) (stop : Stop) (first rx : Receiver S F) (start e f : Egress K G) → Goes F G first start rx e → Begins f.port.journal (advance e.port.plan (e.port.pacer.clock + e.port.plan.drain) (course_of e.port)).journal → f.port.plan ≡ e.port.plan
-      → ((body : ℕ → List ℕ) → Carries G body e → Carries G body f) → HasComeTo F G records stop rx e → HasHalted F G first.origin records f
+      → ((body : ℕ → List ℕ) → Carries G body e → Carries G body f) → HasComeTo F G records stop rx e → HasHalted F G start.port.plan first.origin records f
   halted-draining records stop first rx start e f goes begins plan carries come =
       let byte_time : Pkt → ℕ = arrival_time e.port.plan first.origin in
       let whole : (advance e.port.plan (e.port.pacer.clock + e.port.plan.drain) (course_of e.port)).journal ≡ paced_journal e.port.plan first.origin (admitted come.done) =
       ap (λ (c : Course). (advance e.port.plan (c.clock + e.port.plan.drain) c).journal) (goes.course ∙ ap (open_course e.port.plan byte_time) come.taken.arrivals) in
       record {
+        plan_is = plan ∙ goes.plan;
         given = come.done;
         rest = come.rest;
         parts = come.parts;
         begins = subst (λ (p : Plan). Begins f.port.journal (paced_journal p first.origin (admitted come.done))) (sym plan) (subst (λ js. Begins f.port.journal js) whole begins);
         carries = carries (body_at records) come.taken.carries;
       }
+
+  -- a run over an input that has just been opened
+  pub goes-start : (rx : Receiver S F) (e : Egress K G) → IsReading F rx → IsFresh rx → e.port ≡ new_run e.port.plan → Goes F G rx e rx e
+  unfolding schedule_of
+  goes-start rx e reading fresh start =
+      let plan = e.port.plan in
+      let byte_time : Pkt → ℕ = arrival_time plan rx.origin in
+      let IsStart : RunState Mbuf → Type 0 = λ p. IsBetween p in
+      let none : rx.read ≡ length (arrivals_of e.port.journal) + rx.too_long + rx.oversize =
+      omega (arith, fresh.read_is, fresh.too_long_is, fresh.oversize_is, ap (λ (p : RunState Mbuf). length (arrivals_of p.journal)) start) in
+      record {
+        reading = reading;
+        plan = refl;
+        course = ap course_of start ∙ sym (open_course-nil plan byte_time) ∙ ap (λ (p : RunState Mbuf). open_course plan byte_time (arrivals_of p.journal)) (sym start);
+        between = subst IsStart (sym start) (record { there = omega arith; clock = omega arith; ready = λ waits told. absurd (omega arith) });
+        clock = subst (λ (p : RunState Mbuf). p.pacer.clock ≤ 2 ^ 54) (sym start) (omega arith);
+        account = none;
+        origin = refl;
+        stays = StaysSender-none G e.sender;
+        fine = λ fine. fine;
+        opened = λ _. fresh.read_is;
+        still = λ _. refl;
+      }
+
+  -- nothing was taken of it yet
+  pub come-start : (records : List Record) (stop : Stop) (rx : Receiver S F) (e : Egress K G) → IsFresh rx → e.port ≡ new_run e.port.plan → ToCome F rx records stop → HasWritten G (body_at records) [] e.sender → HasComeTo F G records stop rx e
+  unfolding schedule_of
+  come-start records stop rx e fresh start come written = record {
+    done = [];
+    rest = records;
+    parts = refl;
+    to_come = come;
+    taken = record {
+      read = fresh.read_is;
+      too_long = fresh.too_long_is;
+      oversize = fresh.oversize_is;
+      arrivals = ap (λ (p : RunState Mbuf). arrivals_of p.journal) start;
+      carries = record {
+        waiting = subst (λ (p : RunState Mbuf). All (IsBodyIn (body_at records)) p.waiting) (sym start) (All-nil (IsBodyIn (body_at records)));
+        output = subst (λ (p : RunState Mbuf). HasWritten G (body_at records) (schedule p).sends e.sender) (sym start) written;
+      };
+    };
+  }
+
+  -- as far as a run has come, refused memory or not
+  pub halted-any : (ran : Result (Unit {0}) NoMemory) (plan : Plan) (origin : ℕ) (records : List Record) (stop : Stop) (rx : Receiver S F) (e : Egress K G) → OnOk ran (e.port.journal ≡ paced_journal plan origin (arrivals_of e.port.journal)) → OnOk ran (e.port.plan ≡ plan)
+      → OnOk ran (Took records stop rx e.port.journal × Carries G (body_at records) e) → OnErr ran (HasHalted F G plan origin records e) → HasHalted F G plan origin records e
+  halted-any (Ok u) plan origin records stop rx e paced plan_is took halted =
+      let journal : e.port.journal ≡ paced_journal e.port.plan origin (admitted took.0.given) = paced ∙ ap (paced_journal plan origin) took.0.merge ∙ ap (λ p. paced_journal p origin (admitted took.0.given)) (sym plan_is) in
+      record {
+        plan_is = plan_is;
+        given = took.0.given;
+        rest = took.0.rest;
+        parts = took.0.parts;
+        begins = Begins-same e.port.journal (paced_journal e.port.plan origin (admitted took.0.given)) journal;
+        carries = took.1;
+      }
+  halted-any (Err e) plan origin records stop rx f paced plan_is took halted = halted

@@ -96,11 +96,10 @@ change_of G name old new = record {
 abbrev pub Rose : FileChange → Type 0
 Rose c = HasRisen c.faults_before c.faults_after
 
--- just one file was closed, the output, and its sink held these bytes: the file holds the first few of them or all, and all where the shelf counted no fault
+-- just one file was closed, the output, and its sink held these bytes: the file holds the first few of them, or all
 pub record IsClosed (c : FileChange) (held : List ℕ) : Type 0 where
   pub closed : c.closed_after ≡ c.closed_before ++ (record { name = c.name; held = held } ∷ [])
   pub file : HoldsPrefix held c.after
-  pub sound : (Rose c → ⊥) → c.after ≡ Some held
 
 -- How the output of these sends ended, of which `sent` are counted as sent, and whether it has a write fault.
 pub data IsWritten (t : Target) (sends : List (Departure Pkt)) (sent : ℕ) (c : FileChange) (fault : Bool) : Type 0 where
@@ -108,14 +107,14 @@ pub data IsWritten (t : Target) (sends : List (Departure Pkt)) (sent : ℕ) (c :
   whole : fault ≡ false → (held : List ℕ) → IsWhole t sends sent held → IsClosed c held → c.after ≡ Some held → IsWritten t sends sent c fault
   -- it was not created: nothing was sent or closed, and the file is as it was, or empty
   not_created : fault ≡ true → Rose c → sent ≡ 0 → c.closed_after ≡ c.closed_before → (c.after ≡ c.before) ⊎ (c.after ≡ Some []) → IsWritten t sends sent c fault
-  -- a put was refused after the records counted as sent, and the sink held these and a first part of the next
-  put_refused : fault ≡ true → (held : List ℕ) → IsCut t sends sent held → IsClosed c held → IsWritten t sends sent c fault
+  -- a put was refused after the records counted as sent: the sink held these and a first part of the next, and so does the file unless the closing failed too
+  put_refused : fault ≡ true → (held : List ℕ) → IsCut t sends sent held → IsClosed c held → ((Rose c → ⊥) → c.after ≡ Some held) → IsWritten t sends sent c fault
   -- every put was taken, and the closing failed
   closing_failed : fault ≡ true → Rose c → (held : List ℕ) → IsWhole t sends sent held → IsClosed c held → IsWritten t sends sent c fault
 
 -- how the sends of a run are written
-abbrev pub target : Command → ℕ → List Record → Target
-target command origin records = record { origin = origin; line = command.line; body = body_at records }
+abbrev pub target : Plan → ℕ → List Record → Target
+target plan origin records = record { origin = origin; line = plan.line; body = body_at records }
 
 -- The run of a command over an input with these bytes, where its output changed so.
 pub record IsOutcome (command : Command) (bytes : List ℕ) (c : FileChange) (ended : Ended) : Type 0 where
@@ -145,7 +144,7 @@ pub record IsOutcome (command : Command) (bytes : List ℕ) (c : FileChange) (en
   pub counts : HasCounts port.journal (schedule_by (plan_of command) port.journal) port.counts
   pub account : IsAccount given (schedule_by (plan_of command) port.journal) port.counts input
   -- the output is what the journal's schedule sends
-  pub output : IsWritten (target command origin records) (sends_by (plan_of command) port.journal) port.counts.sent c fault
+  pub output : IsWritten (target (plan_of command) origin records) (sends_by (plan_of command) port.journal) port.counts.sent c fault
 
 -- nothing was scheduled
 pub record IsEmptyEnd (ended : Ended) : Type 0 where
@@ -153,13 +152,25 @@ pub record IsEmptyEnd (ended : Ended) : Type 0 where
   pub inputs : ended.inputs ≡ []
   pub write_fault : ended.write_fault ≡ []
 
--- What is left of the output where memory was refused: it is as it was and nothing was closed; or, created, its sink held a
--- first part of the output that some first records of the input would have had, and was closed.
-pub data HasLeft (command : Command) (bytes : List ℕ) (c : FileChange) : Type 0 where
-  untouched : c.after ≡ c.before → c.closed_after ≡ c.closed_before → HasLeft command bytes c
-  begun : (records given rest : List Record) (stop : Stop) (origin : ℕ) → Reads bytes MAX_RECORDS records stop → records ≡ given ++ rest → (n : ℕ) (held : List ℕ)
-      → held ≡ take n (output_text (target command origin records) (sends_by (plan_of command) (paced_journal (plan_of command) origin (admitted given))))
-      → IsClosed c held → HasLeft command bytes c
+-- the output is as it was, or could not be created and is empty; nothing was closed
+pub record IsUntouched (c : FileChange) : Type 0 where
+  pub file : (c.after ≡ c.before) ⊎ (Rose c × (c.after ≡ Some []))
+  pub closed : c.closed_after ≡ c.closed_before
+
+-- the output was created, and its sink held a first part of what some first of these records would have made of it, and was closed
+pub record IsBegun (plan : Plan) (origin : ℕ) (records : List Record) (c : FileChange) : Type 0 where
+  pub given : List Record
+  pub rest : List Record
+  pub parts : records ≡ given ++ rest
+  pub n : ℕ
+  pub held : List ℕ
+  pub is : held ≡ take n (output_text (target plan origin records) (sends_by plan (paced_journal plan origin (admitted given))))
+  pub closed : IsClosed c held
+
+-- what is left of the output of a command over an input with these bytes, where memory was refused
+abbrev pub HasLeft : Command → List ℕ → FileChange → Type 0
+HasLeft command bytes c =
+    IsUntouched c ⊎ ((records : List Record) × (stop : Stop) × (origin : ℕ) × Reads bytes MAX_RECORDS records stop × IsBegun (plan_of command) origin records c)
 
 -- the status of a run after its report, whose sink had these counts of faults before and after
 abbrev pub IsStatusAfter : Status → ℕ → ℕ → ℕ → Type 0

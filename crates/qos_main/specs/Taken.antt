@@ -5,6 +5,7 @@ use Rattle.qos_io.specs.declared.source.Source.{Ghosts as Sources}
 use Rattle.qos_pcap.specs.declared.fault.Stop.{Stop}
 use Rattle.qos_pcap.specs.declared.fault.Stop.TheVariants.{NotOpened}
 use Rattle.qos_pcap.specs.Format.{Record}
+use Rattle.qos_main.specs.declared.plan.Plan.{Plan}
 use Rattle.qos_main.specs.declared.entry.Entry.{Entry}
 use Rattle.qos_main.specs.declared.egress.Egress.{Egress}
 use Rattle.qos_main.specs.declared.receive.Receiver.{Receiver}
@@ -34,8 +35,9 @@ module _ {S K : Type 0} (F : Sources S) (G : Sinks K) where
     pub to_come : ToCome F rx rest stop
     pub taken : HasTaken (body_at records) done rx e
 
-  -- the run was refused memory: what the journal has begins the paced journal of some first records
-  pub record HasHalted (origin : ℕ) (records : List Record) (e : Egress K G) : Type 0 where
+  -- the run of a port with this plan was refused memory: what the journal has begins the paced journal of some first records
+  pub record HasHalted (plan : Plan) (origin : ℕ) (records : List Record) (e : Egress K G) : Type 0 where
+    pub plan_is : e.port.plan ≡ plan
     pub given : List Record
     pub rest : List Record
     pub parts : records ≡ given ++ rest

@@ -135,7 +135,7 @@ impl<K: Sink> Egress<K> {
         ensures carries { (body : ℕ → List ℕ) → Carries K.Sink body self.old → Carries K.Sink body self.new }
         ensures stays { StaysSender K.Sink self.old.sender self.new.sender }
     {
-        let to = self.port.clock() + self.port.drain_time();
+        let to = self.port.clock() + self.port.plan().drain;
         self.advance(to)
     }
 

@@ -1,12 +1,29 @@
 //! The file that a port's output is written to.
-ghost use Rattle.std.specs.Prelude.{◌≡◌, ◌≤◌, ◌⊎◌, ◌++◌, ◌∷◌, [], ℕ, List, Some, None, true, false, IsSome, IfSome, IfOk, OnErr};
+ghost use Rattle.std.specs.Prelude.{◌≡◌, ◌≤◌, ◌⊎◌, ◌+◌, ◌++◌, ◌∷◌, [], ℕ, List, Some, None, true, false, IsSome, IfSome, IsOk, IfOk, OnOk, OnErr, length, vec_capacity};
 ghost use Rattle.qos_io.specs.Bytes.{HoldsPrefix};
 ghost use Rattle.qos_io.specs.Fault.{HasRisen};
 ghost use Rattle.qos_io.specs.Shelves.{ChangesOnly};
+ghost use Rattle.qos_pcap.specs.Format.{Record};
+ghost use Rattle.qos_main.specs.Plan.{IsPlan};
+ghost use Rattle.qos_main.specs.Schedule.{arrivals_of};
+ghost use Rattle.qos_main.specs.Run.{paced_journal};
+ghost use Rattle.qos_main.specs.PortRun.{new_run};
+ghost use Rattle.qos_main.specs.Receiver.{IsReading, IsFresh, IsFine, ToCome};
 ghost use Rattle.qos_main.specs.Sender.{name_in};
+ghost use Rattle.qos_main.specs.Taken.{Took};
+ghost use Rattle.qos_main.specs.Outcome.{HasCounts, IsWritten, IsUntouched, IsBegun, schedule_by, sends_by, target, change_of};
 
-use qos_base::NoMemory;
+use crate::egress::Egress;
+use crate::ended::PortEnd;
+use crate::mbuf::Mbuf;
+use crate::port_run::PortRun;
+use crate::receive::Receiver;
+use crate::run::run_port;
+use crate::send::Sender;
+use crate::slots::Slots;
+use qos_base::{Departure, NoMemory};
 use qos_io::{PutFault, Shelf};
+use qos_pcap::Stop;
 
 /// Creates the output of a name. `None`: it could not be created. `NoMemory`: the shelf was refused memory, and
 /// the file is as it was.
@@ -51,4 +68,81 @@ pub fn close<H: Shelf>(shelf: &mut H, out: Option<H::Out>) -> Result<bool, NoMem
         Err(PutFault::Failed) => Ok(true),
         Err(PutFault::NoMemory) => Err(NoMemory),
     }
+}
+
+// Whether an output has a fault, by how the run, its puts and its closing ended.
+fn settle(
+    ran: Result<(), NoMemory>,
+    fault: Option<PutFault>,
+    closed: Result<bool, NoMemory>,
+) -> Result<bool, NoMemory>
+    ensures ran { OnOk result (IsOk ran) }
+    ensures whole { result ≡ Ok false → (fault ≡ None) × (closed ≡ Ok false) }
+    ensures faulty { result ≡ Ok true → ((fault ≡ Some PutFault.Failed) × IsOk closed) ⊎ ((fault ≡ None) × (closed ≡ Ok true)) }
+{
+    ran?;
+    let failed = closed?;
+    match fault {
+        None => Ok(failed),
+        Some(PutFault::Failed) => Ok(true),
+        Some(PutFault::NoMemory) => Err(NoMemory),
+    }
+}
+
+/// Creates the output of a name, runs an input through a port whose sends go into it, and closes it. Answers what
+/// the port ended with, and whether the output has a fault: its creation, a put or its closing failed.
+///
+/// `NoMemory`: memory was refused, and the run is over; an output that was created is closed all the same.
+pub fn run_output<H: Shelf>(
+    shelf: &mut H,
+    name: &str,
+    input: &mut Receiver<H::In>,
+    port: PortRun<Mbuf>,
+    out: Vec<Departure<Mbuf>>,
+    slots: Slots,
+) -> Result<(PortEnd, bool), NoMemory>
+    requires reading { IsReading H.In.Source input.old }
+    requires fresh { IsFresh input.old }
+    requires plan { IsPlan port.plan }
+    requires start { port ≡ new_run port.plan }
+    requires empty { out.items ≡ [] }
+    requires room { port.plan.burst ≤ vec_capacity out }
+    ensures paced { IfOk result (λ r. r.0.journal ≡ paced_journal port.plan input.old.origin (arrivals_of r.0.journal)) }
+    ensures account { IfOk result (λ r. input.new.read ≡ length (arrivals_of r.0.journal) + input.new.too_long + input.new.oversize) }
+    ensures counts { IfOk result (λ r. HasCounts r.0.journal (schedule_by port.plan r.0.journal) r.0.counts) }
+    ensures took { IfOk result (λ r. (records : List Record) (stop : Stop) → ToCome H.In.Source input.old records stop → Took records stop input.new r.0.journal) }
+    ensures written { H.Tells shelf.old → IfOk result (λ r. (records : List Record) (stop : Stop) → ToCome H.In.Source input.old records stop
+        → IsWritten (target port.plan input.old.origin records) (sends_by port.plan r.0.journal) r.0.counts.sent (change_of H.Shelf name.now shelf.old shelf.new) r.1) }
+    ensures left { H.Tells shelf.old → OnErr result ((records : List Record) (stop : Stop) → ToCome H.In.Source input.old records stop
+        → IsUntouched (change_of H.Shelf name.now shelf.old shelf.new) ⊎ IsBegun port.plan input.old.origin records (change_of H.Shelf name.now shelf.old shelf.new)) }
+    ensures sure { H.IsSureToWrite shelf.old name.now → IfOk result (λ r. r.1 ≡ true → ⊥) }
+    ensures others { ChangesOnly H.Shelf (Some name.now) shelf.old shelf.new }
+    ensures never_falls { H.faults shelf.old ≤ H.faults shelf.new }
+    ensures origin { OnOk result (input.new.origin ≡ input.old.origin) }
+    ensures fine { OnOk result (IsFine H.In.Source input.old → IsFine H.In.Source input.new) }
+    ensures opened { OnOk result (input.new.stopped ≡ Stop.NotOpened → input.new.read ≡ 0) }
+    ensures still { OnOk result (input.old.head ≡ None → input.new ≡ input.old) }
+{
+    let line = port.plan().line;
+    let sink = create(shelf, name)?;
+    let sender = Sender::begin(sink, input.origin, line);
+    let mut egress = Egress {
+        port,
+        out,
+        sender,
+        slots,
+    };
+    let ran = run_port(input, &mut egress);
+    let (end, sender) = egress.finish();
+    let Sender {
+        sink,
+        origin: _,
+        line: _,
+        sent: _,
+        unwritten: _,
+        fault,
+    } = sender;
+    let closed = close(shelf, sink);
+    let failed = settle(ran, fault, closed)?;
+    Ok((end, failed))
 }

@@ -94,11 +94,11 @@ impl<T: Parcel> PortRun<T> {
         self.pacer.clock()
     }
 
-    /// How long the port is dequeued after the last arrival, in byte times of the line.
-    pub fn drain_time(&self) -> u64
-        ensures { result ≡ self.now.plan.drain }
+    /// The numbers of the port.
+    pub fn plan(&self) -> Plan
+        ensures { result ≡ self.now.plan }
     {
-        self.plan.drain
+        self.plan
     }
 
     /// Dequeues at a moment, at most 2^57 byte times. What is sent goes into `out`, which is empty and has

@@ -38,7 +38,7 @@ fn take_all<S: Source, K: Sink>(
     ensures goes { OnOk result (Goes S.Source K.Sink input.old egress.old input.new egress.new) }
     ensures stopped { OnOk result (input.new.head ≡ None) }
     ensures come { OnOk result ((records : List Record) (stop : Stop) → HasComeTo S.Source K.Sink records stop input.old egress.old → HasComeTo S.Source K.Sink records stop input.new egress.new) }
-    ensures halted { OnErr result ((records : List Record) (stop : Stop) → HasComeTo S.Source K.Sink records stop input.old egress.old → HasHalted S.Source K.Sink input.old.origin records egress.new) }
+    ensures halted { OnErr result ((records : List Record) (stop : Stop) → HasComeTo S.Source K.Sink records stop input.old egress.old → HasHalted S.Source K.Sink egress.old.port.plan input.old.origin records egress.new) }
     ensures stays { StaysSender K.Sink egress.old.sender egress.new.sender }
 {
     let line = egress.sender.line;
@@ -70,7 +70,7 @@ pub fn run_port<S: Source, K: Sink>(
     ensures account { OnOk result (input.new.read ≡ length (arrivals_of egress.new.port.journal) + input.new.too_long + input.new.oversize) }
     ensures took { OnOk result ((records : List Record) (stop : Stop) → HasComeTo S.Source K.Sink records stop input.old egress.old
         → Took records stop input.new egress.new.port.journal × Carries K.Sink (body_at records) egress.new) }
-    ensures halted { OnErr result ((records : List Record) (stop : Stop) → HasComeTo S.Source K.Sink records stop input.old egress.old → HasHalted S.Source K.Sink input.old.origin records egress.new) }
+    ensures halted { OnErr result ((records : List Record) (stop : Stop) → HasComeTo S.Source K.Sink records stop input.old egress.old → HasHalted S.Source K.Sink egress.old.port.plan input.old.origin records egress.new) }
     ensures stays { StaysSender K.Sink egress.old.sender egress.new.sender }
     ensures origin { OnOk result (input.new.origin ≡ input.old.origin) }
     ensures fine { OnOk result (IsFine S.Source input.old → IsFine S.Source input.new) }
