@@ -1,6 +1,8 @@
 -- How the writing of an output ended.
-use Rattle.std.proofs.Common.{◌≡◌, ◌<◌, ◌⊎◌, ℕ, ◌+◌, Bool, true, false, List, [], ◌∷◌, ◌++◌, length, take, drop, Option, Some, None, IsSome, IfSome, MatchOption, Result, Ok, Err, IsOk, refl, sym, ap, ◌∙◌, subst, inl, inr, ⊎_elim, append_assoc, arith}
+use Rattle.std.proofs.Common.{◌≡◌, ltb, ◌<◌, ◌⊎◌, ℕ, ◌+◌, Bool, true, false, List, [], ◌∷◌, ◌++◌, length, take, drop, Option, Some, None, IsSome, IfSome, MatchOption, Result, Ok, Err, IsOk, refl, sym, ap, ◌∙◌, subst, inl, inr, ⊎_elim, append_assoc, arith}
 use Rattle.std.specs.List.{flat_map}
+use Rattle.std.specs.Prelude.{fold}
+use Rattle.std.proofs.lemmas.Bool.{cond_both}
 use Rattle.std.proofs.lemmas.Grind.{flat_map-append}
 use Rattle.std.proofs.lemmas.List.{append-nil, take-append-drop, take_at, drop_more}
 use Rattle.std.proofs.lemmas.List.Sums.{fold-append}
@@ -20,6 +22,10 @@ use Rattle.qos_main.specs.Output.{Target, send_text, output_text, IsWhole, IsCut
 use Rattle.qos_main.specs.Schedule.{Schedule, at_start, after_entry, schedule_of}
 use Rattle.qos_main.specs.Sender.{target_of, HasWritten, IsTold, StaysSender, name_in}
 use Rattle.qos_main.specs.Egress.{Begins}
+use Rattle.port_sched.specs.Dequeue.{dequeue}
+use Rattle.port_sched.specs.Laws.{itself}
+use Rattle.port_sched.specs.PortState.{after_arrival}
+use Rattle.port_sched.specs.declared.plain.TheConstants.{QUEUE_SIZE}
 use Rattle.qos_main.specs.Outcome.{FileChange, Rose, IsClosed, IsWritten, whole, not_created, put_refused, closing_failed}
 use Rattle.qos_main.proofs.Schedules.{sends-arrive}
 
@@ -69,7 +75,26 @@ module _ (t : Target) where
       let later = flat_map (send_text t) more in
       sym (ap (λ ts. take (length held) ts) (ap (output_text t) is ∙ output-append sends more ∙ ap (λ ts. ts ++ later) begins.1 ∙ append_assoc held begins.0 later) ∙ take_at held (begins.0 ++ later) (length held) refl)
 
+-- one schedule's sends begin another's
+abbrev pub SendsBegin : Schedule → Schedule → Type 0
+SendsBegin s t = (more : List (Departure Pkt)) × (t.sends ≡ s.sends ++ more)
+
+sends-after : (s : Schedule) (entry : Entry) → SendsBegin s (after_entry s entry)
+sends-after s (Arrive p) =
+    let Same : Schedule → Type 0 = λ t. t.sends ≡ s.sends in
+    ([], cond_both (ltb (length s.port.queue) QUEUE_SIZE) (record s { port = after_arrival p s.port }) (record s { drops = s.drops ++ p ∷ [] }) Same (λ _. refl) (λ _. refl) ∙ sym (append-nil s.sends))
+sends-after s (Dequeue now room) = ((dequeue itself now room s.port).sends, refl)
+
+sends-fold : (s : Schedule) (entries : List Entry) → SendsBegin s (fold after_entry s entries)
+sends-fold s [] = ([], sym (append-nil s.sends))
+sends-fold s (entry ∷ entries) =
+    let first = sends-after s entry in
+    let later = sends-fold (after_entry s entry) entries in
+    (first.0 ++ later.0, later.1 ∙ ap (λ ds. ds ++ later.0) first.1 ∙ append_assoc s.sends first.0 later.0)
+
 -- what a journal sends, the journals that it begins send first
-sends-after : (s : Schedule) (entry : Entry) → (more : List (Departure Pkt)) × ((after_entry s entry).sends ≡ s.sends ++ more)
-sends-after s (Arrive p) = ([], ?)
-sends-after s (Dequeue now room) = (?, refl)
+pub sends-begin : (shaper : Shaper) (journal whole : List Entry) → Begins journal whole → SendsBegin (schedule_of shaper journal) (schedule_of shaper whole)
+unfolding schedule_of
+sends-begin shaper journal whole begins =
+    let later = sends-fold (fold after_entry (at_start shaper) journal) begins.0 in
+    (later.0, ap (λ (t : Schedule). t.sends) (ap (fold after_entry (at_start shaper)) begins.1 ∙ fold-append after_entry (at_start shaper) journal begins.0) ∙ later.1)
