@@ -279,6 +279,3 @@ impl<'a, R: Print> Sink for StdoutSink<'a, R> {
         Err(PutFault::Failed)
     }
 }
-
-#[cfg(test)]
-mod tests;
