@@ -1,5 +1,5 @@
 -- A choice by a comparison of two numbers.
-use Rattle.std.proofs.Common.{◌≡◌, ◌<◌, ◌≤◌, ◌⊎◌, ℕ, zero, suc, false, cond, eqb, leb, ltb, Result, Ok, Err, OnOk, OnErr, refl, inl, inr, arith}
+use Rattle.std.proofs.Common.{◌≡◌, ◌<◌, ◌≤◌, ◌⊎◌, ℕ, zero, suc, false, cond, eqb, leb, ltb, Result, Ok, Err, OnOk, OnErr, IsOk, refl, inl, inr, arith}
 use Rattle.std.proofs.lemmas.Bool.Decides.{nat_tests}
 
 pub if-le : {X : Type 0} (m n : ℕ) (x y : X) → m ≤ n → cond (leb m n) x y ≡ x
@@ -41,3 +41,13 @@ on_ok (Err e) p = tt
 pub on_err_from : {A E P Q : Type 0} (r : Result A E) → OnErr r P → (P → Q) → OnErr r Q
 on_err_from (Ok x) p from = tt
 on_err_from (Err e) p from = from p
+
+-- what follows from a fact about a success
+pub on_ok_from : {A E P Q : Type 0} (r : Result A E) → OnOk r P → (P → Q) → OnOk r Q
+on_ok_from (Ok x) p from = from p
+on_ok_from (Err e) p from = tt
+
+-- a fact about a success that came
+pub from_ok : {A E P : Type 0} (r : Result A E) → IsOk r → OnOk r P → P
+from_ok (Ok x) ok p = p
+from_ok (Err e) ok p = absurd (let impossible : ⊥ = cc in impossible)

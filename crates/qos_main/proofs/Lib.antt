@@ -15,3 +15,4 @@ pub mod Records
 pub mod Opens
 pub mod Takes
 pub mod Closings
+pub mod Ends

@@ -1,8 +1,12 @@
--- What holds of every advance, and of every open journal.
+-- What holds of every advance, of every open journal, and of every journal.
 use Rattle.std.specs.Prelude.{◌≡◌, ◌<◌, ◌≤◌, ℕ, true, max, List, ◌++◌, length}
+use Rattle.std.specs.List.Sorted.{IsPermutation}
 use Rattle.qos_base.specs.declared.packet.Pkt.{Pkt}
+use Rattle.port_sched.specs.declared.shaper.Shaper.{Shaper}
+use Rattle.port_sched.specs.Laws.{parcels}
 use Rattle.qos_main.specs.declared.entry.Entry.{Entry}
 use Rattle.qos_main.specs.declared.plan.Plan.{Plan}
+use Rattle.qos_main.specs.Schedule.{Schedule, schedule_of, arrivals_of}
 use Rattle.qos_main.specs.Paced.{Course, schedule_in, after_dequeue, moment_after, advance, open_course}
 
 -- where a packet waits after a dequeue that sent something, port time is past the clock
@@ -25,3 +29,11 @@ abbrev pub OpenJournalsGrow : Plan → Type 0
 OpenJournalsGrow plan =
     (byte_time : Pkt → ℕ) (arrivals more : List Pkt) → (rest : List Entry)
     × ((open_course plan byte_time (arrivals ++ more)).journal ≡ (open_course plan byte_time arrivals).journal ++ rest)
+
+-- each of these packets was sent, waits or was turned away, once
+abbrev pub AreAccounted : List Pkt → Schedule → Type 0
+AreAccounted arrivals s = IsPermutation arrivals ((parcels s.sends ++ s.port.queue) ++ s.drops)
+
+-- each packet that arrives in a journal is sent, waits or is turned away, once
+abbrev pub EveryArrivalEnds : Shaper → List Entry → Type 0
+EveryArrivalEnds shaper journal = AreAccounted (arrivals_of journal) (schedule_of shaper journal)

@@ -17,3 +17,4 @@ pub mod Taken
 pub mod Status
 pub mod Report
 pub mod Outcome
+pub mod Ended

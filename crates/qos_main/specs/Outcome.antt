@@ -10,6 +10,7 @@ use Rattle.qos_base.specs.Reason.{reason_number}
 use Rattle.qos_base.specs.Time.{origin_of}
 use Rattle.port_sched.specs.Laws.{parcels}
 use Rattle.qos_io.specs.declared.shelf.Shelf.{Ghosts}
+use Rattle.qos_io.specs.declared.sink.Sink.{Ghosts as Sinks}
 use Rattle.qos_io.specs.Bytes.{HoldsPrefix}
 use Rattle.qos_io.specs.Fault.{HasRisen}
 use Rattle.qos_io.specs.Kept.{Closing}
@@ -26,7 +27,6 @@ use Rattle.qos_main.specs.declared.ended.PortCounts.{PortCounts}
 use Rattle.qos_main.specs.declared.ended.InputEnd.{InputEnd}
 use Rattle.qos_main.specs.declared.plan.Plan.{Plan}
 use Rattle.qos_main.specs.declared.status.Status.{Status}
-use Rattle.qos_main.specs.declared.status.Status.TheVariants.{Fine}
 use Rattle.qos_main.specs.Words.{Command, command_of}
 use Rattle.qos_main.specs.Fate.{lost_for, admitted, body_at}
 use Rattle.qos_main.specs.Schedule.{Schedule, schedule_of, arrivals_of, dequeues_in}
@@ -34,6 +34,7 @@ use Rattle.qos_main.specs.Run.{plan_of, paced_journal}
 use Rattle.qos_main.specs.Output.{Target, output_text, IsWhole, IsCut}
 use Rattle.qos_main.specs.Status.{status_number, status_for}
 use Rattle.qos_main.specs.Receiver.{IsReadFault}
+use Rattle.qos_main.specs.Report.{Reports}
 
 -- the command that a program's words ask for
 abbrev pub asked : List (String Global) → Option Command
@@ -172,12 +173,12 @@ abbrev pub HasLeft : Command → List ℕ → FileChange → Type 0
 HasLeft command bytes c =
     IsUntouched c ⊎ ((records : List Record) × (stop : Stop) × (origin : ℕ) × Reads bytes MAX_RECORDS records stop × IsBegun (plan_of command) origin records c)
 
--- the status of a run after its report, whose sink had these counts of faults before and after
-abbrev pub IsStatusAfter : Status → ℕ → ℕ → ℕ → Type 0
-IsStatusAfter status before after answer =
-    (answer ≡ status_number status) ⊎ (((status ≡ Fine) × (answer ≡ 5) × HasRisen before after) ⊎ (answer ≡ 7))
+-- a run of that status was reported into a sink, which was `before` and is `after`, and the program ends with this number
+abbrev pub IsReported : {K : Type 0} → Sinks K → Status → K → K → ℕ → Type 0
+IsReported G status before after number =
+    (answer : Status) × (number ≡ status_number answer) × Reports status (G.contents before) (G.contents after) (G.faults before) (G.faults after) answer
 
--- the input and the output were run to their ends; `answers` says which status follows from how these are
+-- the input and the output were run to their ends, and `answers` is so of the status that follows from how they ended
 pub record IsRun (ended : Ended) (answers : Status → Type 0) : Type 0 where
   pub port : PortEnd
   pub input : InputEnd

@@ -1,6 +1,9 @@
 //! Laws of the definitions. These functions do nothing; each has a law as its contract.
 ghost use Rattle.qos_main.specs.declared.plan.Plan.{Plan};
-ghost use Rattle.qos_main.specs.Laws.{AdvancesMoveOn, OpenJournalsGrow};
+ghost use Rattle.std.specs.Prelude.{List};
+ghost use Rattle.port_sched.specs.declared.shaper.Shaper.{Shaper};
+ghost use Rattle.qos_main.specs.declared.entry.Entry.{Entry};
+ghost use Rattle.qos_main.specs.Laws.{AdvancesMoveOn, OpenJournalsGrow, EveryArrivalEnds};
 
 use port_sched::laws::dequeues_keep;
 use qos_base::Pkt;
@@ -16,3 +19,10 @@ pub fn advances_move_on()
 pub fn open_journals_grow()
     ensures { (plan : Plan) → OpenJournalsGrow plan }
 {}
+
+/// Each packet that arrives in a journal is sent, waits or is turned away, once.
+pub fn every_arrival_ends()
+    ensures { (shaper : Shaper) (journal : List Entry) → EveryArrivalEnds shaper journal }
+{
+    dequeues_keep::<Pkt>();
+}

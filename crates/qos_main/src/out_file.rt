@@ -110,7 +110,7 @@ pub fn run_output<H: Shelf>(
     ensures paced { IfOk result (λ r. r.0.journal ≡ paced_journal port.plan input.old.origin (arrivals_of r.0.journal)) }
     ensures account { IfOk result (λ r. input.new.read ≡ length (arrivals_of r.0.journal) + input.new.too_long + input.new.oversize) }
     ensures counts { IfOk result (λ r. HasCounts r.0.journal (schedule_by port.plan r.0.journal) r.0.counts) }
-    ensures took { IfOk result (λ r. (records : List Record) (stop : Stop) → ToCome H.In.Source input.old records stop → Took records stop input.new r.0.journal) }
+    ensures took { H.Tells shelf.old → IfOk result (λ r. (records : List Record) (stop : Stop) → ToCome H.In.Source input.old records stop → Took records stop input.new r.0.journal) }
     ensures written { H.Tells shelf.old → IfOk result (λ r. (records : List Record) (stop : Stop) → ToCome H.In.Source input.old records stop
         → IsWritten (target port.plan input.old.origin records) (sends_by port.plan r.0.journal) r.0.counts.sent (change_of H.Shelf name.now shelf.old shelf.new) r.1) }
     ensures left { H.Tells shelf.old → OnErr result ((records : List Record) (stop : Stop) → ToCome H.In.Source input.old records stop

@@ -1,5 +1,6 @@
 //! The call that the program makes: a command, from its words to its report.
-ghost use Rattle.std.specs.Prelude.{◌≡◌, ◌≢◌, ◌≤◌, ◌+◌, ◌⊎◌, ℕ, List, [], ◌∷◌, Some, None, true, length, IfOk, OnErr, vec_capacity};
+ghost use Rattle.std.specs.Prelude.{◌≡◌, ◌≤◌, ◌⊎◌, ℕ, List, [], ◌∷◌, Some, None, true, IfOk, OnErr};
+ghost use Rattle.std.specs.Option.{option_map};
 ghost use Rattle.qos_io.specs.Bytes.{bytes_in};
 ghost use Rattle.qos_io.specs.Fault.{HasRisen};
 ghost use Rattle.qos_io.specs.Shelves.{ChangesOnly};
@@ -7,15 +8,13 @@ ghost use Rattle.qos_pcap.specs.Reads.{IsWholeCapture, Reads};
 ghost use Rattle.qos_pcap.specs.Format.{Record};
 ghost use Rattle.qos_main.specs.declared.limits.TheConstants.{MAX_RECORDS};
 ghost use Rattle.qos_main.specs.Plan.{IsPlan};
-ghost use Rattle.qos_main.specs.PortRun.{new_run};
-ghost use Rattle.qos_main.specs.Schedule.{arrivals_of};
 ghost use Rattle.qos_main.specs.Status.{status_number, status_for};
-ghost use Rattle.qos_main.specs.Outcome.{asked, IsOutcome, HasLeft, IsRun, IsEmptyEnd, IsStatusAfter, change_of};
+ghost use Rattle.qos_main.specs.Ended.{HasRoom, IsPrepared, IsEndOf};
+ghost use Rattle.qos_main.specs.Outcome.{asked, IsOutcome, HasLeft, IsRun, IsReported, IsEmptyEnd, change_of};
 ghost use Rattle.qos_main.specs.Words.{Command as Asked, KeepsRules};
-ghost use Rattle.qos_main.specs.Report.{Reports};
-ghost use Rattle.qos_main.specs.Receiver.{IsReadFault};
 
 use crate::ended::{Ended, InputEnd, PortCounts, PortEnd};
+use crate::laws::every_arrival_ends;
 use crate::limits::BURST;
 use crate::mbuf::Mbuf;
 use crate::out_file::run_output;
@@ -28,16 +27,34 @@ use crate::status::Status;
 use crate::words::{Command, read_command};
 use qos_base::{Departure, NoMemory, Sequence};
 use qos_io::{Gate, Shelf, Sink, Source};
+use qos_pcap::Stop;
+use qos_pcap::laws::reads_one_way;
 use std::alloc::Global;
 
-// What a run needs of memory before its output is created: the port, a dequeue's room, and the lists of an `Ended`.
+// The lists of an `Ended`, each with room for its one place.
+#[derive(Drop)]
+struct Lists {
+    ports: Vec<PortEnd>,
+    inputs: Vec<InputEnd>,
+    write_fault: Vec<bool>,
+}
+
+// What a run needs of memory before its output is created.
 #[derive(Drop)]
 struct Prepared {
     port: PortRun<Mbuf>,
     out: Vec<Departure<Mbuf>>,
-    ports: Vec<PortEnd>,
-    inputs: Vec<InputEnd>,
-    write_fault: Vec<bool>,
+    lists: Lists,
+}
+
+fn reserve(alloc: Global) -> Result<Lists, NoMemory>
+    ensures { IfOk result HasRoom }
+{
+    Ok(Lists {
+        ports: Vec::with_capacity(alloc, 1)?,
+        inputs: Vec::with_capacity(alloc, 1)?,
+        write_fault: Vec::with_capacity(alloc, 1)?,
+    })
 }
 
 fn prepare(alloc: Global, plan: Plan) -> Result<Prepared, NoMemory>
@@ -48,16 +65,13 @@ fn prepare(alloc: Global, plan: Plan) -> Result<Prepared, NoMemory>
     Ok(Prepared {
         port: PortRun::new(alloc, plan)?,
         out: Vec::with_capacity(alloc, BURST as usize)?,
-        ports: Vec::with_capacity(alloc, 1)?,
-        inputs: Vec::with_capacity(alloc, 1)?,
-        write_fault: Vec::with_capacity(alloc, 1)?,
+        lists: reserve(alloc)?,
     })
 }
 
 // An end where nothing was scheduled.
 fn nothing(alloc: Global, status: Status) -> Ended
-    ensures status { result.status ≡ status_number status }
-    ensures empty { IsEmptyEnd result }
+    ensures { IsEmptyEnd result }
 {
     Ended {
         status: status.number(),
@@ -82,6 +96,29 @@ fn input_end<S: Source>(alloc: Global, input: &Receiver<S>, counts: PortCounts) 
     }
 }
 
+// Puts together what was received, scheduled and written, before the report.
+fn put_together(status: Status, lists: Lists, input: InputEnd, port: PortEnd, fault: bool) -> Ended
+    requires room { HasRoom lists }
+    ensures ports { result.ports ≡ port ∷ [] }
+    ensures inputs { result.inputs ≡ input ∷ [] }
+    ensures faults { result.write_fault ≡ fault ∷ [] }
+{
+    let Lists {
+        mut ports,
+        mut inputs,
+        mut write_fault,
+    } = lists;
+    ports.push_reserved(port);
+    inputs.push_reserved(input);
+    write_fault.push_reserved(fault);
+    Ended {
+        status: status.number(),
+        ports: Sequence::of(ports),
+        inputs: Sequence::of(inputs),
+        write_fault: Sequence::of(write_fault),
+    }
+}
+
 // Runs a command: the input is opened, and its packets go one after another through the port and into the output.
 fn run<H: Shelf>(
     alloc: Global,
@@ -89,32 +126,47 @@ fn run<H: Shelf>(
     shelf: &mut H,
 ) -> Result<(Ended, Status), NoMemory>
     requires { KeepsRules command.now }
+    ensures ran { IfOk result (λ r. IsRun r.0 (λ status. r.1 ≡ status)) }
+    ensures outcome { H.Tells shelf.old → IfOk result (λ r. IsOutcome command.now (bytes_in (H.file shelf.old command.now.input)) (change_of H.Shelf command.now.output shelf.old shelf.new) r.0) }
+    ensures left { H.Tells shelf.old → OnErr result (HasLeft command.now (bytes_in (H.file shelf.old command.now.input)) (change_of H.Shelf command.now.output shelf.old shelf.new)) }
+    ensures read { H.IsSureToRead shelf.old command.now.input → IfOk result (λ r. r.1 ≡ Status.Read → ⊥) }
+    ensures absent { H.Tells shelf.old → H.file shelf.old command.now.input ≡ None → (H.IsSureToRead shelf.old command.now.input → ⊥) → IfOk result (λ r. r.1 ≡ Status.Read) }
+    ensures write { H.IsSureToWrite shelf.old command.now.output → IfOk result (λ r. r.0.write_fault ≡ true ∷ [] → ⊥) }
+    ensures capture { H.Tells shelf.old → IfOk result (λ r. r.1 ≡ Status.Capture
+        → (records : List Record) → IsWholeCapture MAX_RECORDS (bytes_in (H.file shelf.old command.now.input)) records → ⊥) }
+    ensures complete { H.Tells shelf.old → H.IsSureToRead shelf.old command.now.input → H.IsSureToWrite shelf.old command.now.output
+        → IfOk result (λ r. (records : List Record) (stop : Stop) → Reads (bytes_in (H.file shelf.old command.now.input)) MAX_RECORDS records stop → r.1 ≡ status_for stop false) }
+    ensures files { ChangesOnly H.Shelf (Some command.now.output) shelf.old shelf.new }
+    ensures never_falls { H.faults shelf.old ≤ H.faults shelf.new }
 {
     let mut input = open_input(shelf, command.input)?;
-    let Prepared {
-        port,
-        out,
-        mut ports,
-        mut inputs,
-        mut write_fault,
-    } = prepare(alloc, command.plan())?;
+    let Prepared { port, out, lists } = prepare(alloc, command.plan())?;
     let slots = Slots::new(alloc);
-    let (end, failed) = run_output(shelf, command.output, &mut input, port, out, slots)?;
-    let status = Status::of_run(input.stopped, failed);
-    inputs.push_reserved(input_end(alloc, &input, end.counts));
-    ports.push_reserved(end);
-    write_fault.push_reserved(failed);
-    let ended = Ended {
-        status: status.number(),
-        ports: Sequence::of(ports),
-        inputs: Sequence::of(inputs),
-        write_fault: Sequence::of(write_fault),
-    };
-    Ok((ended, status))
+    let (end, fault) = run_output(shelf, command.output, &mut input, port, out, slots)?;
+    every_arrival_ends();
+    reads_one_way();
+    let status = Status::of_run(input.stopped, fault);
+    let numbers = input_end(alloc, &input, end.counts);
+    Ok((put_together(status, lists, numbers, end, fault), status))
 }
 
-// Runs the command that the words ask for. Before the report.
+// Runs the command that the words ask for, before the report.
 fn run_words<H: Shelf>(alloc: Global, words: &[String], shelf: &mut H) -> (Ended, Status)
+    ensures usage { asked words.now ≡ None → (result.1 ≡ Status.Usage) × IsEmptyEnd result.0 }
+    ensures ran { (command : Asked) → asked words.now ≡ Some command → IsRun result.0 (λ status. result.1 ≡ status) ⊎ ((result.1 ≡ Status.Memory) × IsEmptyEnd result.0) }
+    ensures outcome { H.Tells shelf.old → (command : Asked) → asked words.now ≡ Some command
+        → IsOutcome command (bytes_in (H.file shelf.old command.input)) (change_of H.Shelf command.output shelf.old shelf.new) result.0
+        ⊎ (IsEmptyEnd result.0 × HasLeft command (bytes_in (H.file shelf.old command.input)) (change_of H.Shelf command.output shelf.old shelf.new)) }
+    ensures read { (command : Asked) → asked words.now ≡ Some command → H.IsSureToRead shelf.old command.input → result.1 ≡ Status.Read → ⊥ }
+    ensures absent { H.Tells shelf.old → (command : Asked) → asked words.now ≡ Some command → H.file shelf.old command.input ≡ None → (H.IsSureToRead shelf.old command.input → ⊥)
+        → (result.1 ≡ Status.Read) ⊎ (result.1 ≡ Status.Memory) }
+    ensures write { (command : Asked) → asked words.now ≡ Some command → H.IsSureToWrite shelf.old command.output → result.0.write_fault ≡ true ∷ [] → ⊥ }
+    ensures capture { H.Tells shelf.old → (command : Asked) → asked words.now ≡ Some command → result.1 ≡ Status.Capture
+        → (records : List Record) → IsWholeCapture MAX_RECORDS (bytes_in (H.file shelf.old command.input)) records → ⊥ }
+    ensures complete { H.Tells shelf.old → (command : Asked) → asked words.now ≡ Some command → H.IsSureToRead shelf.old command.input → H.IsSureToWrite shelf.old command.output
+        → (records : List Record) (stop : Stop) → Reads (bytes_in (H.file shelf.old command.input)) MAX_RECORDS records stop → (result.1 ≡ status_for stop false) ⊎ (result.1 ≡ Status.Memory) }
+    ensures files { ChangesOnly H.Shelf (option_map (λ command. command.output) (asked words.now)) shelf.old shelf.new }
+    ensures never_falls { H.faults shelf.old ≤ H.faults shelf.new }
 {
     let Some(command) = read_command(words) else {
         return (nothing(alloc, Status::Usage), Status::Usage);
@@ -127,14 +179,14 @@ fn run_words<H: Shelf>(alloc: Global, words: &[String], shelf: &mut H) -> (Ended
 
 /// Runs the command that the program's words ask for, and reports how it ended.
 ///
-/// At this stage the only command is `run IN OUT LINE SIZE CREDITS PERIOD`: of the capture IN one record after
+/// At this stage the only command is `run IN OUT LINE SIZE CREDITS PERIOD`. Of the capture IN one record after
 /// another is read; the packets of those that are neither too long nor oversize go through one queue of 64 behind
 /// one token bucket, paced by their stamps; what is sent is written at once into the capture OUT; the report goes
 /// to `said`. Where IN stops early, what was read before it is scheduled and written all the same. The runtime and
 /// the gate are not used yet. Nothing waits, and the call returns.
 ///
-/// The status of the returned value is the first that holds of: 2 the words ask for no command, 7 memory
-/// was refused, 4 the input could not be opened or read, 6 it is no whole capture, 5 the output or the report could
+/// The status of the returned value is the first that holds of: 2 the words ask for no command, 7 memory was
+/// refused, 4 the input could not be opened or read, 6 it is no whole capture, 5 the output or the report could
 /// not be written; else 0.
 pub fn qos_top<R: Sync, H: Shelf, K: Sink, G: Gate>(
     _rt: &R,
@@ -144,6 +196,42 @@ pub fn qos_top<R: Sync, H: Shelf, K: Sink, G: Gate>(
     said: &mut K,
     _gate: &G,
 ) -> Ended
+    // Where the words ask for no command, nothing is scheduled and 2 is reported.
+    ensures usage { asked words.now ≡ None → IsReported K.Sink Status.Usage said.old said.new result.status × IsEmptyEnd result }
+
+    // Where they ask for one, the status that is reported follows from how the input stopped and whether the output
+    // has a fault; or memory was refused, and nothing is told but that.
+    ensures ran { (command : Asked) → asked words.now ≡ Some command → IsRun result (λ status. IsReported K.Sink status said.old said.new result.status)
+        ⊎ (IsReported K.Sink Status.Memory said.old said.new result.status × IsEmptyEnd result) }
+
+    // The run is as the input's bytes say: the journal is the paced journal of its arrivals, which are the admitted
+    // packets of the records before the input's stop; the output is what the journal's schedule sends; each record is
+    // accounted for. Where memory was refused, the output is as it was, or begins as some first records would have made it.
+    ensures outcome { H.Tells shelf.old → (command : Asked) → asked words.now ≡ Some command
+        → IsOutcome command (bytes_in (H.file shelf.old command.input)) (change_of H.Shelf command.output shelf.old shelf.new) result
+        ⊎ (IsEmptyEnd result × HasLeft command (bytes_in (H.file shelf.old command.input)) (change_of H.Shelf command.output shelf.old shelf.new)) }
+
+    // 4 only where the name of the input is not sure to read; and so ends a command whose input is not there, but for
+    // want of memory.
+    ensures read { (command : Asked) → asked words.now ≡ Some command → H.IsSureToRead shelf.old command.input → result.status ≡ 4 → ⊥ }
+    ensures absent { H.Tells shelf.old → (command : Asked) → asked words.now ≡ Some command → H.file shelf.old command.input ≡ None → (H.IsSureToRead shelf.old command.input → ⊥)
+        → (result.status ≡ 4) ⊎ (result.status ≡ 7) }
+
+    // The output has a fault only where its name is not sure to write.
+    ensures write { (command : Asked) → asked words.now ≡ Some command → H.IsSureToWrite shelf.old command.output → result.write_fault ≡ true ∷ [] → ⊥ }
+
+    // 6 only where the input is no whole capture.
+    ensures capture { H.Tells shelf.old → (command : Asked) → asked words.now ≡ Some command → result.status ≡ 6
+        → (records : List Record) → IsWholeCapture MAX_RECORDS (bytes_in (H.file shelf.old command.input)) records → ⊥ }
+
+    // With names and a report that do not fail, the input's bytes alone say how a command ends, but for want of memory.
+    ensures complete { H.Tells shelf.old → (command : Asked) → asked words.now ≡ Some command → H.IsSureToRead shelf.old command.input → H.IsSureToWrite shelf.old command.output
+        → (HasRisen (K.faults said.old) (K.faults said.new) → ⊥) → (records : List Record) (stop : Stop) → Reads (bytes_in (H.file shelf.old command.input)) MAX_RECORDS records stop
+        → (result.status ≡ status_number (status_for stop false)) ⊎ (result.status ≡ 7) }
+
+    // No file changes but the output's, and no count of faults falls.
+    ensures files { ChangesOnly H.Shelf (option_map (λ command. command.output) (asked words.now)) shelf.old shelf.new }
+    ensures faults { (H.faults shelf.old ≤ H.faults shelf.new) × (K.faults said.old ≤ K.faults said.new) }
 {
     let (mut ended, status) = run_words(alloc, words, shelf);
     ended.status = report(status, said).number();
