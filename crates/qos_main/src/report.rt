@@ -44,6 +44,3 @@ fn status_line(status: Status) -> [u8; 9]
     line[7] += status.number();
     line
 }
-
-#[cfg(test)]
-mod tests;

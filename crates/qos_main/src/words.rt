@@ -156,6 +156,3 @@ fn are_digits(bytes: &[u8]) -> bool
 {
     bytes.iter().all(|b| b.is_ascii_digit())
 }
-
-#[cfg(test)]
-mod tests;

@@ -1,0 +1,33 @@
+//! The program: `qos run IN OUT LINE SIZE CREDITS PERIOD` puts one capture through one token bucket.
+//!
+//! It hands its words, the system's files and standard output to `qos_top` of the crate `qos_main`, whose contract
+//! says what a run comes to, and ends with the status that it answers.
+#![tactic(auto)]
+
+use qos_io::OpenGate;
+use qos_main::report::report;
+use qos_main::{FileShelf, Status, StdoutSink, qos_top};
+use std::alloc::AllocError;
+use std::env;
+use std::io::ErrorKind;
+use std::process::ExitCode;
+use std::rt::Env;
+
+// The words after the program's name. Where one is not UTF-8 there are none: a faulty command line too.
+fn arguments<R: Env + AllocGlobal>(rt: &R) -> Result<Vec<String>, AllocError> {
+    match env::args(rt) {
+        Ok(args) => args.skip(1).collect(rt.alloc()),
+        Err(error) if error.kind() == ErrorKind::OutOfMemory => Err(AllocError),
+        Err(_) => Ok(Vec::new(rt.alloc())),
+    }
+}
+
+fn main(rt: HostRuntime) -> ExitCode {
+    let mut said = StdoutSink::new(&rt);
+    let Ok(words) = arguments(&rt) else {
+        return ExitCode::from(report(Status::Memory, &mut said).number());
+    };
+    let mut shelf = FileShelf::new(&rt);
+    let ended = qos_top(&rt, rt.alloc(), &words, &mut shelf, &mut said, &OpenGate);
+    ExitCode::from(ended.status)
+}

@@ -1,0 +1,170 @@
+//! Words and captures, as bytes.
+use std::process::Abort;
+
+/// What a capture of the program begins with: little-endian, nanoseconds, version 2.4, Ethernet.
+pub const HEADER: [u8; 24] = [
+    0x4d, 0x3c, 0xb2, 0xa1, 2, 0, 4, 0, 0, 0, 0, 0, 0, 0, 0, 0, 0, 0, 4, 0, 1, 0, 0, 0,
+];
+
+/// An IPv4 frame of 60 bytes.
+pub const FRAME: [u8; 60] = [
+    2, 0, 0, 0, 0, 1, 2, 0, 0, 0, 0, 2, 8, 0, 0x45, 0, 0, 0x2e, 0, 0, 0, 0, 0x40, 0x11, 0, 0, 10,
+    0, 0, 1, 10, 0, 0, 2, 0, 0, 0, 0, 0, 0, 0, 0, 0, 0, 0, 0, 0, 0, 0, 0, 0, 0, 0, 0, 0, 0, 0, 0,
+    0, 0,
+];
+
+/// How the numbers of a capture are written: the order of their bytes, and the unit of a record's fraction.
+#[derive(Clone, Copy, Debug)]
+pub struct Form {
+    pub big: bool,
+    pub micros: bool,
+}
+
+/// Little-endian, with nanoseconds.
+pub const PLAIN: Form = Form {
+    big: false,
+    micros: false,
+};
+
+/// The forms of the four magic numbers.
+pub const FORMS: [Form; 4] = [
+    PLAIN,
+    Form {
+        big: true,
+        micros: false,
+    },
+    Form {
+        big: false,
+        micros: true,
+    },
+    Form {
+        big: true,
+        micros: true,
+    },
+];
+
+/// A record of a capture. Its body is the frame of 60 bytes, cut or lengthened with zero bytes to `cap`.
+#[derive(Clone, Copy, Debug)]
+pub struct Rec {
+    pub seconds: u32,
+    pub nanos: u32,
+    pub cap: u32,
+    pub wire: u32,
+}
+
+/// A frame of 60 bytes that was captured so many nanoseconds after 100 seconds.
+pub fn frame(nanos: u32) -> Rec {
+    Rec {
+        seconds: 100,
+        nanos,
+        cap: 60,
+        wire: 60,
+    }
+}
+
+/// What an input holds.
+#[derive(Clone, Copy, Debug)]
+pub enum Input<'a> {
+    /// There is no such file.
+    Absent,
+    /// These bytes, and so many frames after them.
+    Raw(&'a [u8], u32),
+    /// A capture of these records, but for so many bytes at its end.
+    Capture(Form, &'a [Rec], usize),
+}
+
+/// The bytes of an input; none where it is absent.
+pub fn bytes_of<R: Abort + AllocGlobal>(rt: &R, input: Input<'_>) -> Vec<u8> {
+    match input {
+        Input::Absent => Vec::new(rt.alloc()),
+        Input::Raw(bytes, frames) => raw(rt, bytes, frames),
+        Input::Capture(form, records, less) => {
+            let mut bytes = capture(rt, form, records);
+            bytes.truncate(bytes.len().saturating_sub(less));
+            bytes
+        }
+    }
+}
+
+fn raw<R: Abort + AllocGlobal>(rt: &R, first: &[u8], frames: u32) -> Vec<u8> {
+    let mut bytes = first.to_vec(rt.alloc()).expect(rt, "memory");
+    for _ in 0..frames {
+        put(rt, &mut bytes, &FRAME);
+    }
+    bytes
+}
+
+/// The capture that the program writes of these records.
+pub fn output<R: Abort + AllocGlobal>(rt: &R, records: &[Rec]) -> Vec<u8> {
+    let mut bytes = raw(rt, &HEADER, 0);
+    for record in records {
+        put_record(rt, &mut bytes, PLAIN, record);
+    }
+    bytes
+}
+
+/// A capture of these records, in this form.
+pub fn capture<R: Abort + AllocGlobal>(rt: &R, form: Form, records: &[Rec]) -> Vec<u8> {
+    let mut bytes = Vec::new(rt.alloc());
+    put_header(rt, &mut bytes, form);
+    for record in records {
+        put_record(rt, &mut bytes, form, record);
+    }
+    bytes
+}
+
+fn put<R: Abort>(rt: &R, bytes: &mut Vec<u8>, more: &[u8]) {
+    bytes.extend_from_slice(more).expect(rt, "memory");
+}
+
+fn put_number<R: Abort>(rt: &R, bytes: &mut Vec<u8>, form: Form, number: u32) {
+    let text = if form.big {
+        number.to_be_bytes()
+    } else {
+        number.to_le_bytes()
+    };
+    put(rt, bytes, &text);
+}
+
+// The version 2.4 is two numbers of two bytes.
+fn put_header<R: Abort>(rt: &R, bytes: &mut Vec<u8>, form: Form) {
+    let magic = if form.micros {
+        0xa1b2_c3d4
+    } else {
+        0xa1b2_3c4d
+    };
+    put_number(rt, bytes, form, magic);
+    put(
+        rt,
+        bytes,
+        if form.big {
+            &[0, 2, 0, 4]
+        } else {
+            &[2, 0, 4, 0]
+        },
+    );
+    for number in [0, 0, 65_535, 1] {
+        put_number(rt, bytes, form, number);
+    }
+}
+
+fn put_record<R: Abort>(rt: &R, bytes: &mut Vec<u8>, form: Form, record: &Rec) {
+    let unit = if form.micros { 1000 } else { 1 };
+    for number in [record.seconds, record.nanos / unit, record.cap, record.wire] {
+        put_number(rt, bytes, form, number);
+    }
+    put(rt, bytes, &FRAME[..(record.cap as usize).min(60)]);
+    for _ in 60..record.cap {
+        put(rt, bytes, &[0]);
+    }
+}
+
+/// The words of a line, which single spaces part.
+pub fn words_of<R: Abort + AllocGlobal>(rt: &R, line: &str) -> Vec<String> {
+    let mut words = Vec::new(rt.alloc());
+    for word in line.split(' ') {
+        let word = String::from_str(rt.alloc(), word).expect(rt, "memory");
+        words.push(word).expect(rt, "memory");
+    }
+    words
+}
