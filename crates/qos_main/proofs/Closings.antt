@@ -66,13 +66,14 @@ module _ (t : Target) where
       let later = flat_map (send_text t) (drop (count + 1) sends) in
       let within = slice_get_within sends count next there in
       let parts : sends ≡ take count sends ++ next ∷ drop (count + 1) sends =
-      sym (take-append-drop count sends) ∙ ap (λ ds. take count sends ++ ds) (drop_more sends count next within ∙ ap (λ d. d ∷ drop (count + 1) sends) (get_or_from_slice_get sends count next next there)) in
-      (drop n text ++ later,
-      ap (output_text t) parts ∙ output-append (take count sends) (next ∷ drop (count + 1) sends)
-      ∙ ap (λ ts. output_text t (take count sends) ++ (ts ++ later)) (sym (take-append-drop n text))
-      ∙ ap (λ ts. output_text t (take count sends) ++ ts) (append_assoc (take n text) (drop n text) later)
-      ∙ sym (append_assoc (output_text t (take count sends)) (take n text) (drop n text ++ later))
-      ∙ ap (λ ts. ts ++ (drop n text ++ later)) (sym is))
+      sym (take-append-drop count sends) ∙ ap (λ ds. take count sends ++ ds) (drop_more sends count next within ∙ ap (λ d. d ∷ drop (count + 1) sends) (get_or_from_slice_get sends count next next there)) in (
+        drop n text ++ later,
+        ap (output_text t) parts ∙ output-append (take count sends) (next ∷ drop (count + 1) sends)
+            ∙ ap (λ ts. output_text t (take count sends) ++ (ts ++ later)) (sym (take-append-drop n text))
+            ∙ ap (λ ts. output_text t (take count sends) ++ ts) (append_assoc (take n text) (drop n text) later)
+            ∙ sym (append_assoc (output_text t (take count sends)) (take n text) (drop n text ++ later))
+            ∙ ap (λ ts. ts ++ (drop n text ++ later)) (sym is),
+      )
 
   held-begins : (sends : List (Departure Pkt)) (fault : Option PutFault) (count : ℕ) (held : List ℕ) → MatchOption fault (IsWhole t sends count held) (λ _. IsCut t sends count held) → (more : List ℕ) × (output_text t sends ≡ held ++ more)
   held-begins sends None count held w = ([], sym w.is ∙ sym (append-nil held))

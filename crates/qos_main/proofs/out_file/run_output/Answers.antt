@@ -30,12 +30,12 @@ returns-clause-written g c tells records stop come =
     let origin = ap (λ s. s.origin) sender ∙ stays.origin ∙ c.begin-sender.ensures.stamps.0 in
     let line = ap (λ s. s.line) sender ∙ stays.line ∙ c.begin-sender.ensures.stamps.1 ∙ ap (λ p. p.line) c.plan-line.ensures in
     let ended = has-ended g.H.Shelf K c.args.name.now c.args.shelf.now c.create.new.shelf c.close-closed.new.shelf c.in_ok-sink.sink c.begin-sender.result c.run_port-ran.new.egress.sender c.finish-end.result.1 c.close-closed.result
-        c.in_ok-sink.ensures.named (c.in_ok-sink.ensures.empty tells) c.in_ok-sink.ensures.uncounted c.in_ok-sink.ensures.failed (c.in_ok-sink.ensures.not_created tells) (c.in_ok-sink.ensures.closed tells)
-        c.begin-sender.ensures.name c.begin-sender.ensures.there c.begin-sender.ensures.told c.begin-sender.ensures.none stays sender
-        c.close-closed.ensures.none (c.close-closed.ensures.closed (c.in_ok-sink.ensures.others.tells.1 tells)) (c.close-closed.ensures.held (c.in_ok-sink.ensures.others.tells.1 tells)) c.close-closed.ensures.failed in
+    c.in_ok-sink.ensures.named (c.in_ok-sink.ensures.empty tells) c.in_ok-sink.ensures.uncounted c.in_ok-sink.ensures.failed (c.in_ok-sink.ensures.not_created tells) (c.in_ok-sink.ensures.closed tells)
+    c.begin-sender.ensures.name c.begin-sender.ensures.there c.begin-sender.ensures.told c.begin-sender.ensures.none stays sender
+    c.close-closed.ensures.none (c.close-closed.ensures.closed (c.in_ok-sink.ensures.others.tells.1 tells)) (c.close-closed.ensures.held (c.in_ok-sink.ensures.others.tells.1 tells)) c.close-closed.ensures.failed in
     written-end K c.args.port.plan c.args.input.now.origin records c.run_port-ran.new.egress c.finish-end.result.1 c.finish-end.result.0.journal c.finish-end.result.0.counts.sent _ c.close-closed.result c.in_ok-failed.failed
-        sender c.finish-end.ensures.journal plan origin line c.finish-end.ensures.sent both.1 ended
-        (λ fine. c.in_ok-failed.ensures.whole (ap Ok fine)) (λ faulty. c.in_ok-failed.ensures.faulty (ap Ok faulty))
+    sender c.finish-end.ensures.journal plan origin line c.finish-end.ensures.sent both.1 ended
+    (λ fine. c.in_ok-failed.ensures.whole (ap Ok fine)) (λ faulty. c.in_ok-failed.ensures.faulty (ap Ok faulty))
 
 pub returns-in_err-failed-clause-left : goal.returns-in_err-failed-clause-left
 returns-in_err-failed-clause-left g c tells =
@@ -48,9 +48,9 @@ returns-in_err-failed-clause-left g c tells =
     let origin = ap (λ s. s.origin) sender ∙ stays.origin ∙ c.begin-sender.ensures.stamps.0 in
     let line = ap (λ s. s.line) sender ∙ stays.line ∙ c.begin-sender.ensures.stamps.1 ∙ ap (λ p. p.line) c.plan-line.ensures in
     let ended = has-ended g.H.Shelf K c.args.name.now c.args.shelf.now c.create.new.shelf c.close-closed.new.shelf c.in_ok-sink.sink c.begin-sender.result c.run_port-ran.new.egress.sender c.finish-end.result.1 c.close-closed.result
-        c.in_ok-sink.ensures.named (c.in_ok-sink.ensures.empty tells) c.in_ok-sink.ensures.uncounted c.in_ok-sink.ensures.failed (c.in_ok-sink.ensures.not_created tells) (c.in_ok-sink.ensures.closed tells)
-        c.begin-sender.ensures.name c.begin-sender.ensures.there c.begin-sender.ensures.told c.begin-sender.ensures.none stays sender
-        c.close-closed.ensures.none (c.close-closed.ensures.closed (c.in_ok-sink.ensures.others.tells.1 tells)) (c.close-closed.ensures.held (c.in_ok-sink.ensures.others.tells.1 tells)) c.close-closed.ensures.failed in
+    c.in_ok-sink.ensures.named (c.in_ok-sink.ensures.empty tells) c.in_ok-sink.ensures.uncounted c.in_ok-sink.ensures.failed (c.in_ok-sink.ensures.not_created tells) (c.in_ok-sink.ensures.closed tells)
+    c.begin-sender.ensures.name c.begin-sender.ensures.there c.begin-sender.ensures.told c.begin-sender.ensures.none stays sender
+    c.close-closed.ensures.none (c.close-closed.ensures.closed (c.in_ok-sink.ensures.others.tells.1 tells)) (c.close-closed.ensures.held (c.in_ok-sink.ensures.others.tells.1 tells)) c.close-closed.ensures.failed in
     let halted = halted-any g.H.In.Source K c.run_port-ran.result c.args.port.plan c.args.input.now.origin records stop c.run_port-ran.new.input c.run_port-ran.new.egress
-        c.run_port-ran.ensures.paced c.run_port-ran.ensures.plan (on_ok_from c.run_port-ran.result c.run_port-ran.ensures.took (λ took. took records stop start)) (on_err_from c.run_port-ran.result c.run_port-ran.ensures.halted (λ halted. halted records stop start)) in
+    c.run_port-ran.ensures.paced c.run_port-ran.ensures.plan (on_ok_from c.run_port-ran.result c.run_port-ran.ensures.took (λ took. took records stop start)) (on_err_from c.run_port-ran.result c.run_port-ran.ensures.halted (λ halted. halted records stop start)) in
     left-halted K c.args.port.plan c.args.input.now.origin records c.run_port-ran.new.egress c.finish-end.result.1 _ c.close-closed.result sender origin line halted ended)

@@ -55,6 +55,6 @@ returns-clause-outcome g c tells =
     let written = written-later G name old mid new later _ _ _ _ (c.in_ok-end.ensures.written (others.tells.1 tells) read.0 read.1 come) in
     subst (λ (x : Asked). IsOutcome x (bytes_in (G.file old x.input)) (change_of G x.output old new) c.put_together.result) c.command.view_is
     (is-outcome bytes c.in_ok-input.input c.run_output.new.input seen c.in_ok-port.field-0.port.plan (change_of G name old new) c.put_together.result c.in_ok-end.end c.input_end-numbers.result c.in_ok-end.fault read.0 read.1
-        plan read.2 c.put_together.ensures.ports c.put_together.ensures.inputs c.put_together.ensures.faults took c.input_end-numbers.ensures
-        (c.in_ok-input.ensures.origin tells) c.in_ok-input.ensures.numbers c.in_ok-end.ensures.origin c.in_ok-end.ensures.opened c.in_ok-end.ensures.still
-        c.in_ok-end.ensures.paced c.in_ok-end.ensures.counts c.in_ok-end.ensures.account (c.every_arrival_ends.ensures c.in_ok-port.field-0.port.plan.shaper c.in_ok-end.end.journal) written)
+    plan read.2 c.put_together.ensures.ports c.put_together.ensures.inputs c.put_together.ensures.faults took c.input_end-numbers.ensures
+    (c.in_ok-input.ensures.origin tells) c.in_ok-input.ensures.numbers c.in_ok-end.ensures.origin c.in_ok-end.ensures.opened c.in_ok-end.ensures.still
+    c.in_ok-end.ensures.paced c.in_ok-end.ensures.counts c.in_ok-end.ensures.account (c.every_arrival_ends.ensures c.in_ok-port.field-0.port.plan.shaper c.in_ok-end.end.journal) written)
