@@ -1,10 +1,10 @@
 -- An advance, a dequeue at a time.
-use Rattle.std.proofs.Common.{◌≡◌, ◌<◌, ◌≤◌, ◌⊎◌, ℕ, zero, suc, ◌+◌, ◌-◌, ◌||◌, Bool, true, false, cond, eqb, leb, ltb, max, List, [], ◌∷◌, ◌++◌, length, None, Some, refl, sym, ap, ◌∙◌, subst, inl, inr, ⊎_elim, arith}
+use Rattle.std.proofs.Common.{◌≡◌, ◌<◌, ◌≤◌, ◌⊎◌, ℕ, zero, suc, ◌+◌, ◌-◌, ◌||◌, Bool, true, false, cond, eqb, leb, ltb, max, List, length, None, Some, refl, sym, ap, ◌∙◌, subst, inl, inr, ⊎_elim, arith}
 use Rattle.std.proofs.lemmas.Bool.{cases_lt}
 use Rattle.std.proofs.lemmas.Bool.Decides.{nat_tests}
 use Rattle.qos_main.specs.declared.entry.Entry.TheVariants.{Dequeue}
 use Rattle.qos_main.specs.Pacer.{PacerState, step_to, after_aim, next_in, next_moment}
-use Rattle.qos_main.specs.Schedule.{schedule_of, arrivals_of}
+use Rattle.qos_main.specs.Schedule.{arrivals_of}
 use Rattle.qos_main.specs.declared.plan.Plan.{Plan}
 use Rattle.qos_main.specs.Paced.{Course, schedule_in, after_dequeue, moment_after, advance_by, advance}
 use Rattle.qos_main.specs.PortRun.{RunState, course_of, schedule, IsReady, after_entry_of}

@@ -1,5 +1,5 @@
 -- How the writing of an output ended.
-use Rattle.std.proofs.Common.{◌≡◌, ltb, ◌<◌, ◌⊎◌, ℕ, ◌+◌, Bool, true, false, List, [], ◌∷◌, ◌++◌, length, take, drop, Option, Some, None, IsSome, IfSome, MatchOption, Result, Ok, Err, IsOk, refl, sym, ap, ◌∙◌, subst, inl, inr, ⊎_elim, append_assoc, arith}
+use Rattle.std.proofs.Common.{◌≡◌, ltb, ◌⊎◌, ℕ, ◌+◌, Bool, true, false, List, [], ◌∷◌, ◌++◌, length, take, drop, Option, Some, None, IsSome, IfSome, MatchOption, Result, Ok, Err, IsOk, refl, sym, ap, ◌∙◌, subst, inl, inr, append_assoc}
 use Rattle.std.specs.List.{flat_map}
 use Rattle.std.specs.Prelude.{fold}
 use Rattle.std.proofs.lemmas.Bool.{cond_both}
@@ -38,7 +38,6 @@ use Rattle.port_sched.specs.Laws.{itself}
 use Rattle.port_sched.specs.PortState.{after_arrival}
 use Rattle.port_sched.specs.declared.plain.TheConstants.{QUEUE_SIZE}
 use Rattle.qos_main.specs.Outcome.{FileChange, Rose, IsClosed, IsWritten, IsUntouched, IsBegun, change_of, sends_by, target, whole, not_created, put_refused, closing_failed}
-use Rattle.qos_main.proofs.Schedules.{sends-arrive}
 
 -- a sink that is there, or none
 pub some_or_none : {A : Type 0} (o : Option A) → (o ≡ None) ⊎ ((a : A) × (o ≡ Some a))

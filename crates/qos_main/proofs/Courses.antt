@@ -1,5 +1,5 @@
 -- Arrivals and dequeues of a run are those of its course.
-use Rattle.std.proofs.Common.{◌≡◌, ℕ, Bool, true, false, cond, leb, List, [], ◌∷◌, ◌++◌, None, Some, refl, sym, ap, ◌∙◌}
+use Rattle.std.proofs.Common.{◌≡◌, ℕ, Bool, true, false, cond, leb, [], ◌∷◌, ◌++◌, None, Some, refl, sym, ap, ◌∙◌}
 use Rattle.qos_base.specs.declared.packet.Pkt.{Pkt}
 use Rattle.qos_main.specs.declared.plan.Plan.{Plan}
 use Rattle.qos_main.specs.declared.entry.Entry.TheVariants.{Arrive, Dequeue}

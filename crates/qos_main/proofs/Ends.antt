@@ -1,5 +1,5 @@
 -- What becomes of each arrival of a journal.
-use Rattle.std.proofs.Common.{◌≡◌, ◌<◌, ltb, ℕ, List, [], ◌∷◌, ◌++◌, length, fold, map, refl, sym, ap, ◌∙◌, subst, append_assoc}
+use Rattle.std.proofs.Common.{◌≡◌, ltb, ℕ, List, [], ◌∷◌, ◌++◌, length, fold, sym, ap, ◌∙◌, subst, append_assoc}
 use Rattle.std.specs.List.Sorted.{IsPermutation}
 use Rattle.std.proofs.lemmas.Bool.{cond_both}
 use Rattle.std.proofs.lemmas.List.{append-nil, map-append}

@@ -1,11 +1,9 @@
 -- One arrival more in an open course, and what begins a paced journal.
-use Rattle.std.proofs.Common.{◌≡◌, ℕ, List, [], ◌∷◌, ◌++◌, fold, refl, sym, ap, ◌∙◌}
+use Rattle.std.proofs.Common.{◌≡◌, ℕ, List, [], ◌∷◌, ◌++◌, refl}
 use Rattle.std.proofs.lemmas.List.Sums.{fold-append}
 use Rattle.qos_base.specs.declared.packet.Pkt.{Pkt}
 use Rattle.qos_main.specs.declared.plan.Plan.{Plan}
-use Rattle.qos_main.specs.Pacer.{step_to}
-use Rattle.qos_main.specs.Paced.{Course, advance, after_arrival, open_course, paced_course}
-use Rattle.qos_main.proofs.Lives.{advance_by-grows}
+use Rattle.qos_main.specs.Paced.{after_arrival, open_course}
 
 pub open_course-push : (plan : Plan) (byte_time : Pkt → ℕ) (arrivals : List Pkt) (p : Pkt) → open_course plan byte_time (arrivals ++ p ∷ []) ≡ after_arrival plan (byte_time p) p (open_course plan byte_time arrivals)
 unfolding open_course

@@ -1,13 +1,9 @@
 -- One record more of an input.
-use Rattle.std.proofs.Common.{◌≡◌, ◌<◌, ℕ, zero, suc, ◌+◌, ◌==◌, Bool, true, false, cond, List, [], ◌∷◌, ◌++◌, length, map, slice_index_or, refl, sym, ap, ◌∙◌, append_assoc, length-append, zero-add, arith}
+use Rattle.std.proofs.Common.{◌≡◌, ℕ, ◌+◌, cond, List, [], ◌∷◌, ◌++◌, length, map, slice_index_or, sym, ap, ◌∙◌, append_assoc, length-append, zero-add, arith}
 use Rattle.std.proofs.lemmas.List.{get_or_at, map-append, length-map, append-nil}
 use Rattle.std.proofs.lemmas.List.Sums.{sum_by-append}
-use Rattle.qos_base.specs.declared.packet.Pkt.{Pkt}
-use Rattle.qos_base.specs.Reason.{reason_number}
 use Rattle.qos_pcap.specs.Format.{Record}
-use Rattle.qos_main.specs.declared.fate.Fate.{Fate}
-use Rattle.qos_main.specs.declared.fate.Fate.TheVariants.{Admitted, Lost}
-use Rattle.qos_main.specs.Fate.{fate_of, is_lost, lost_for, packet_of, packet_if, admitted_from, admitted, body_at}
+use Rattle.qos_main.specs.Fate.{fate_of, is_lost, lost_for, packet_if, admitted_from, admitted, body_at}
 
 admitted_from-append : (i : ℕ) (done more : List Record) → admitted_from i (done ++ more) ≡ admitted_from i done ++ admitted_from (i + length done) more
 admitted_from-append i [] more = ap (λ n. admitted_from n more) (omega arith)

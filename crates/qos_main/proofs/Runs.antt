@@ -1,13 +1,12 @@
 -- The run of a port stays sound.
-use Rattle.std.proofs.Common.{◌≡◌, ◌<◌, ◌≤◌, ◌^◌, ℕ, ◌+◌, ◌*◌, Bool, true, false, max, List, [], ◌∷◌, ◌++◌, length, map, nat_lt, drop, refl, sym, ap, ◌∙◌, subst, ⊎_elim, length-append, arith}
+use Rattle.std.proofs.Common.{◌≡◌, ◌<◌, ◌≤◌, ◌^◌, ℕ, ◌+◌, Bool, true, false, List, [], ◌∷◌, ◌++◌, length, map, nat_lt, refl, sym, ap, ◌∙◌, subst, ⊎_elim, length-append, arith}
 use Rattle.std.specs.List.{All}
 use Rattle.std.proofs.lemmas.List.{length-map, map-append, drop_at}
 use Rattle.std.proofs.lemmas.List.Elements.{All-drop, All-push}
 use Rattle.std.proofs.lemmas.Bool.{cases_lt, false≢true, ltb-true}
 use Rattle.qos_base.specs.declared.packet.Pkt.{Pkt}
 use Rattle.qos_base.specs.declared.packet.Departure.{Departure}
-use Rattle.port_sched.specs.declared.plain.TheConstants.{MTU, OVERHEAD, QUEUE_SIZE}
-use Rattle.port_sched.specs.declared.shaper.Shaper.{Shaper}
+use Rattle.port_sched.specs.declared.plain.TheConstants.{MTU, QUEUE_SIZE}
 use Rattle.port_sched.specs.PortState.{PortState, start_of, after_arrival}
 use Rattle.port_sched.specs.Dequeue.{Dequeued, dequeue}
 use Rattle.port_sched.specs.Laws.{itself, parcels, AreWithin, seen_port, seen_send, DequeueLaws}
@@ -16,10 +15,10 @@ use Rattle.qos_main.specs.declared.plan.Plan.{Plan}
 use Rattle.qos_main.specs.declared.tally.Tally.{Tally}
 use Rattle.qos_main.specs.declared.entry.Entry.{Entry}
 use Rattle.qos_main.specs.declared.entry.Entry.TheVariants.{Arrive, Dequeue}
-use Rattle.qos_main.specs.Schedule.{Schedule, after_entry, schedule_of, arrivals_of, dequeues_in}
+use Rattle.qos_main.specs.Schedule.{Schedule, after_entry, schedule_of, arrivals_of}
 use Rattle.qos_main.specs.Plan.{IsPlan}
 use Rattle.qos_main.specs.Pacer.{PacerState, new_pacer}
-use Rattle.qos_main.specs.PortRun.{RunState, IsSound, IsTally, HasDequeued}
+use Rattle.qos_main.specs.PortRun.{RunState, IsSound, HasDequeued}
 use Rattle.qos_main.proofs.Schedules.{schedule_of-push, arrivals_of-dequeue, dequeues_in-dequeue, arrivals_of-arrive, dequeues_in-arrive}
 use Rattle.qos_main.proofs.Choices.{if-lt, if-ge}
 

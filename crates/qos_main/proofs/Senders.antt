@@ -8,7 +8,7 @@ use Rattle.qos_io.specs.declared.sink.PutFault.{PutFault}
 use Rattle.qos_io.specs.Bytes.{held_after, PutSome}
 use Rattle.qos_pcap.specs.Written.{header_text}
 use Rattle.qos_main.specs.declared.send.Sender.{Sender}
-use Rattle.qos_main.specs.Output.{Target, send_text, output_text, IsWhole, IsCut, in_header}
+use Rattle.qos_main.specs.Output.{Target, send_text, IsWhole, IsCut, in_header}
 use Rattle.qos_main.specs.Sender.{target_of, HasWritten, StaysSender}
 use Rattle.qos_main.proofs.Outputs.{IsWhole-start, IsWhole-more, IsCut-now, IsCut-more}
 

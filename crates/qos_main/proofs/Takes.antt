@@ -1,5 +1,5 @@
 -- What was taken of an input, a turn at a time.
-use Rattle.std.proofs.Common.{◌≡◌, ◌≤◌, ◌^◌, ℕ, ◌+◌, ◌-◌, cond, max, List, [], ◌∷◌, ◌++◌, length, Option, None, MatchOption, Result, Ok, Err, OnOk, OnErr, ◌⊎◌, refl, sym, ap, ◌∙◌, subst, append_assoc, length-append, arith}
+use Rattle.std.proofs.Common.{◌≡◌, ◌≤◌, ◌^◌, ℕ, ◌+◌, ◌-◌, cond, max, List, [], ◌∷◌, ◌++◌, length, Option, None, MatchOption, Result, Ok, Err, OnOk, OnErr, ◌⊎◌, refl, sym, ap, ◌∙◌, subst, length-append, arith}
 use Rattle.std.specs.List.{All}
 use Rattle.std.proofs.lemmas.List.{append-nil}
 use Rattle.std.proofs.lemmas.List.Elements.{All-nil}
@@ -17,8 +17,6 @@ use Rattle.qos_pcap.specs.declared.head.Head.{Head}
 use Rattle.qos_pcap.specs.Format.{Record}
 use Rattle.qos_pcap.specs.Given.{StillGives}
 use Rattle.qos_main.specs.declared.plan.Plan.{Plan}
-use Rattle.qos_main.specs.declared.entry.Entry.{Entry}
-use Rattle.qos_main.specs.declared.fate.Fate.{Fate}
 use Rattle.qos_main.specs.declared.fate.Fate.TheVariants.{Admitted, Lost}
 use Rattle.qos_main.specs.declared.mbuf.Mbuf.{Mbuf}
 use Rattle.qos_main.specs.declared.send.Sender.{Sender}

@@ -1,5 +1,5 @@
 -- What a command comes to, from what its parts did.
-use Rattle.std.proofs.Common.{◌≡◌, ◌≢◌, ◌≤◌, ◌⊎◌, ℕ, ◌+◌, ◌-◌, eqb, ltb, cond, Bool, true, false, List, [], ◌∷◌, ◌++◌, length, sum, slice_index_or, Option, None, Some, refl, sym, ap, ◌∙◌, subst, inl, inr, length-append, zero-add, arith}
+use Rattle.std.proofs.Common.{◌≡◌, ◌≢◌, ◌≤◌, ◌⊎◌, ℕ, ◌+◌, ◌-◌, eqb, ltb, cond, Bool, false, List, [], ◌∷◌, ◌++◌, length, sum, slice_index_or, None, Some, refl, sym, ap, ◌∙◌, subst, inl, inr, length-append, zero-add, arith}
 use Rattle.std.proofs.Math.Nat.{eq-or-lt_of_le}
 use Rattle.std.specs.List.Sorted.{IsPermutation}
 use Rattle.std.proofs.lemmas.Bool.{cond_both}

@@ -3,7 +3,6 @@ use Rattle.std.specs.Prelude.{◌≡◌, ℕ, List, ◌++◌}
 use Rattle.std.specs.List.{All}
 use Rattle.qos_io.specs.declared.sink.Sink.{Ghosts}
 use Rattle.qos_main.specs.declared.entry.Entry.{Entry}
-use Rattle.qos_main.specs.declared.mbuf.Mbuf.{Mbuf}
 use Rattle.qos_main.specs.declared.egress.Egress.{Egress}
 use Rattle.qos_main.specs.Mbuf.{IsBodyIn}
 use Rattle.qos_main.specs.PortRun.{schedule}

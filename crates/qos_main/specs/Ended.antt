@@ -1,5 +1,5 @@
 -- How what a run came to is put together.
-use Rattle.std.specs.Prelude.{◌≡◌, ◌≤◌, ℕ, [], ◌∷◌, vec_capacity}
+use Rattle.std.specs.Prelude.{◌≡◌, ◌≤◌, [], ◌∷◌, vec_capacity}
 use Rattle.qos_io.specs.declared.source.Source.{Ghosts}
 use Rattle.qos_main.specs.declared.ended.PortCounts.{PortCounts}
 use Rattle.qos_main.specs.declared.ended.InputEnd.{InputEnd}

@@ -2,7 +2,6 @@
 use Rattle.std.specs.Prelude.{ℕ, ◌+◌, ◌==◌, Bool, false, nat_lt, if◌then◌else◌, List, [], ◌∷◌, ◌++◌, map, count_by, Option, None, Some, slice_index_or}
 use Rattle.qos_base.specs.declared.packet.Pkt.{Pkt}
 use Rattle.qos_base.specs.declared.packet.Colour.TheVariants.{Green}
-use Rattle.qos_base.specs.declared.reason.Reason.{Reason}
 use Rattle.qos_base.specs.declared.reason.Reason.TheVariants.{TooLong, Oversize}
 use Rattle.qos_base.specs.Reason.{reason_number}
 use Rattle.port_sched.specs.declared.plain.TheConstants.{MTU}

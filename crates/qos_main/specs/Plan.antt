@@ -1,5 +1,5 @@
 -- The numbers that a port can have.
-use Rattle.std.specs.Prelude.{ℕ, ◌≤◌, ◌^◌}
+use Rattle.std.specs.Prelude.{◌≤◌, ◌^◌}
 use Rattle.qos_base.specs.Time.{IsLineRate}
 use Rattle.port_sched.specs.PortState.{IsShaper}
 use Rattle.qos_main.specs.declared.plan.Plan.{Plan}

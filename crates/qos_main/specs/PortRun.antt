@@ -9,7 +9,7 @@ use Rattle.qos_main.specs.declared.limits.TheConstants.{MAX_RECORDS}
 use Rattle.qos_main.specs.declared.plan.Plan.{Plan}
 use Rattle.qos_main.specs.declared.tally.Tally.{Tally}
 use Rattle.qos_main.specs.declared.entry.Entry.{Entry}
-use Rattle.qos_main.specs.declared.entry.Entry.TheVariants.{Arrive, Dequeue}
+use Rattle.qos_main.specs.declared.entry.Entry.TheVariants.{Dequeue}
 use Rattle.qos_main.specs.Plan.{IsPlan}
 use Rattle.qos_main.specs.Pacer.{PacerState, new_pacer}
 use Rattle.qos_main.specs.Schedule.{Schedule, schedule_of, arrivals_of, dequeues_in}

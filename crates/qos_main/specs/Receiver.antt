@@ -1,11 +1,10 @@
 -- What a receiver still gives, and what it has given.
-use Rattle.std.specs.Prelude.{◌≡◌, ◌⊎◌, ℕ, ◌+◌, ◌≤◌, List, [], ◌∷◌, Option, None, Some, IfSome, MatchOption, IsSome}
+use Rattle.std.specs.Prelude.{◌≡◌, ◌⊎◌, ℕ, ◌+◌, ◌≤◌, List, [], ◌∷◌, None, Some, IfSome, MatchOption}
 use Rattle.qos_io.specs.declared.source.Source.{Ghosts}
 use Rattle.qos_pcap.specs.declared.capture.Capture.{Capture}
-use Rattle.qos_pcap.specs.declared.fault.PcapFault.{PcapFault}
 use Rattle.qos_pcap.specs.declared.fault.PcapFault.TheVariants.{Read}
 use Rattle.qos_pcap.specs.declared.fault.Stop.{Stop}
-use Rattle.qos_pcap.specs.declared.fault.Stop.TheVariants.{End, NotOpened, Fault}
+use Rattle.qos_pcap.specs.declared.fault.Stop.TheVariants.{NotOpened, Fault}
 use Rattle.qos_pcap.specs.declared.head.Head.{Head}
 use Rattle.qos_base.specs.Time.{origin_of}
 use Rattle.qos_pcap.specs.First.{first_stamp}
@@ -15,7 +14,6 @@ use Rattle.qos_base.specs.declared.reason.Reason.TheVariants.{TooLong, Oversize}
 use Rattle.port_sched.specs.declared.plain.TheConstants.{MTU}
 use Rattle.qos_main.specs.declared.limits.TheConstants.{MAX_RECORDS}
 use Rattle.qos_main.specs.declared.fate.Fate.TheVariants.{Admitted, Lost}
-use Rattle.qos_main.specs.declared.mbuf.Mbuf.{Mbuf}
 use Rattle.qos_main.specs.declared.receive.Received.{Received}
 use Rattle.qos_main.specs.declared.receive.Received.TheVariants.{Admitted as Packet, Lost as Gone, Stopped as Nothing}
 use Rattle.qos_main.specs.declared.receive.Receiver.{Receiver}

@@ -1,8 +1,7 @@
-use Rattle.std.proofs.Common.{◌≡◌, List, Ok, refl, ap, sym, ◌∙◌, subst}
+use Rattle.std.proofs.Common.{List, Ok, ap, sym, ◌∙◌, subst}
 use Rattle.qos_main.specs.declared.entry.Entry.{Entry}
 use Rattle.qos_main.specs.Fate.{body_at}
 use Rattle.qos_main.specs.Taken.{Took}
-use Rattle.qos_main.specs.declared.send.Sender.{Sender}
 use Rattle.qos_main.proofs.Choices.{from_ok, on_err, on_ok_from, on_err_from}
 use Rattle.qos_main.proofs.Takes.{goes-start, come-start, halted-any}
 use Rattle.qos_main.proofs.Closings.{sink-empty, has-ended, written-end, left-halted}

@@ -1,4 +1,4 @@
-use Rattle.std.proofs.Common.{◌≡◌, ℕ, List, ◌∷◌, ◌++◌, length, length-take, take, drop, OnOk, Some, sym, subst, arith}
+use Rattle.std.proofs.Common.{◌≡◌, ℕ, List, ◌∷◌, length, length-take, drop, OnOk, Some, sym, subst, arith}
 use Rattle.qos_pcap.specs.declared.fault.Stop.{Stop}
 use Rattle.qos_pcap.specs.declared.head.Head.{Head}
 use Rattle.qos_pcap.specs.Format.{Record}

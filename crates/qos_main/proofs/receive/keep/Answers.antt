@@ -1,8 +1,7 @@
-use Rattle.std.proofs.Common.{◌≡◌, ◌≤◌, ℕ, List, [], length, take, sym, ap, ◌∙◌, subst, arith}
+use Rattle.std.proofs.Common.{◌≡◌, ℕ, List, [], length, take, ap, ◌∙◌, arith}
 use Rattle.std.specs.Vec.{with_items}
 use Rattle.std.proofs.lemmas.List.{with_items_is}
 use Rattle.qos_base.specs.declared.packet.Pkt.{Pkt}
-use Rattle.qos_main.specs.declared.limits.TheConstants.{SLOT_BYTES}
 use Rattle.qos_main.proofs.Frames.{same_body}
 use Rattle.qos_main.proofs.receive.keep.Goals as goal
 

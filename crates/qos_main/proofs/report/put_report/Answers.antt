@@ -1,4 +1,4 @@
-use Rattle.std.proofs.Common.{◌≡◌, ◌++◌, List, ℕ, OnOk, OnErr, refl, sym, subst, ◌∙◌}
+use Rattle.std.proofs.Common.{◌≡◌, List, ℕ, OnOk, OnErr, refl, sym, subst, ◌∙◌}
 use Rattle.qos_io.specs.Bytes.{held_after, PutSome}
 use Rattle.qos_main.specs.declared.status.Status.{Status}
 use Rattle.qos_main.specs.declared.status.Status.TheVariants.{Fine, Usage, Read, Write, Capture, Memory}

@@ -1,4 +1,3 @@
-use Rattle.std.proofs.Common.{◌≡◌, List, OnOk, OnErr, Result, Ok, Err}
 use Rattle.qos_main.proofs.Choices.{on_ok, on_err_from}
 use Rattle.qos_main.proofs.Takes.{took-drained, halted-draining}
 use Rattle.qos_main.proofs.run.run_port.Goals as goal

@@ -1,6 +1,4 @@
-use Rattle.std.proofs.Common.{◌≡◌, ◌+◌, ℕ, List, refl, sym, ap, ◌∙◌, subst, arith}
-use Rattle.qos_base.specs.Time.{byte_time_of, moment_of}
-use Rattle.qos_base.specs.declared.packet.Pkt.{Pkt}
+use Rattle.std.proofs.Common.{List, refl, sym, ap, ◌∙◌, subst, arith}
 use Rattle.qos_pcap.specs.declared.fault.Stop.{Stop}
 use Rattle.qos_pcap.specs.Format.{Record}
 use Rattle.qos_main.specs.declared.receive.Received.{Received}
@@ -8,7 +6,7 @@ use Rattle.qos_main.specs.declared.receive.Received.TheVariants.{Admitted as Pac
 use Rattle.qos_main.specs.Receiver.{ToCome, Gives, Counted}
 use Rattle.qos_main.specs.declared.plan.Plan.{Plan}
 use Rattle.qos_main.proofs.Choices.{on_err}
-use Rattle.qos_main.proofs.Takes.{SameEgress, come-lost, come-admitted, come-stopped, goes-on, goes-arrived, halted-between, halted-arriving, lost-adds, moment-is, carries-same}
+use Rattle.qos_main.proofs.Takes.{come-lost, come-admitted, come-stopped, goes-on, goes-arrived, halted-between, halted-arriving, lost-adds, moment-is, carries-same}
 use Rattle.qos_main.proofs.run.take_all.Goals as goal
 
 pub returns-in_err-turn-clause-halted : goal.returns-in_err-turn-clause-halted

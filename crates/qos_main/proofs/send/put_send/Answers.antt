@@ -1,4 +1,4 @@
-use Rattle.std.proofs.Common.{◌≡◌, List, ℕ, sym, ap, ◌∙◌, subst, OnOk, OnErr}
+use Rattle.std.proofs.Common.{◌≡◌, List, ℕ, ◌∙◌, subst, OnOk, OnErr}
 use Rattle.qos_io.specs.Bytes.{held_after, PutSome}
 use Rattle.qos_main.specs.Output.{Target}
 use Rattle.qos_main.proofs.Outputs.{record_text-send}

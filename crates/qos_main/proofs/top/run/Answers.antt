@@ -1,7 +1,6 @@
-use Rattle.std.proofs.Common.{◌≡◌, OnErr, ap, sym, ◌∙◌, subst, inl, inr}
+use Rattle.std.proofs.Common.{OnErr, ap, sym, ◌∙◌, subst}
 use Rattle.qos_io.specs.Bytes.{bytes_in}
 use Rattle.qos_main.specs.declared.limits.TheConstants.{MAX_RECORDS}
-use Rattle.qos_main.specs.declared.plan.Plan.{Plan}
 use Rattle.qos_main.specs.Words.{Command as Asked}
 use Rattle.qos_main.specs.Run.{plan_of}
 use Rattle.qos_main.specs.Outcome.{IsOutcome, HasLeft, change_of}

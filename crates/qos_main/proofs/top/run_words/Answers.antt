@@ -1,4 +1,4 @@
-use Rattle.std.proofs.Common.{◌≡◌, Some, sym, ap, ◌∙◌, subst, inr}
+use Rattle.std.proofs.Common.{◌≡◌, subst, inr}
 use Rattle.qos_io.specs.Bytes.{bytes_in}
 use Rattle.qos_main.specs.Words.{Command}
 use Rattle.qos_main.specs.Outcome.{HasLeft, change_of}

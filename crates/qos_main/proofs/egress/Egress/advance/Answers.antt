@@ -1,4 +1,4 @@
-use Rattle.std.proofs.Common.{◌≡◌, ◌<◌, ◌++◌, [], ◌∷◌, List, true, refl, sym, ap, ◌∙◌, subst}
+use Rattle.std.proofs.Common.{◌≡◌, ◌<◌, List, true, sym, ap, ◌∙◌, subst}
 use Rattle.qos_main.specs.declared.mbuf.Mbuf.{Mbuf}
 use Rattle.qos_main.specs.declared.entry.Entry.{Entry}
 use Rattle.qos_main.specs.declared.entry.Entry.TheVariants.{Dequeue}
@@ -6,7 +6,7 @@ use Rattle.qos_main.specs.Paced.{advance}
 use Rattle.qos_main.specs.PortRun.{RunState, schedule, after_entry_of, course_of}
 use Rattle.qos_main.proofs.Choices.{on_err}
 use Rattle.qos_main.specs.Egress.{Begins}
-use Rattle.qos_main.proofs.Advances.{Advancing, Advancing-start, Advancing-dequeued, clocked, dequeued, course-over, Begins-advancing}
+use Rattle.qos_main.proofs.Advances.{Advancing, Advancing-start, Advancing-dequeued, dequeued, course-over, Begins-advancing}
 use Rattle.qos_main.proofs.Senders.{StaysSender-none, StaysSender-then}
 use Rattle.qos_main.proofs.Egresses.{waiting-same, output-same}
 use Rattle.qos_main.proofs.egress.Egress.advance.Goals as goal

@@ -1,9 +1,7 @@
-use Rattle.std.proofs.Common.{◌≡◌, List, ap, ◌∙◌, sym, subst}
+use Rattle.std.proofs.Common.{◌≡◌, ap, ◌∙◌, sym}
 use Rattle.qos_main.specs.declared.mbuf.Mbuf.{Mbuf}
-use Rattle.qos_main.specs.declared.entry.Entry.{Entry}
-use Rattle.qos_main.specs.Paced.{Course, advance, after_arrival}
+use Rattle.qos_main.specs.Paced.{Course, advance}
 use Rattle.qos_main.specs.PortRun.{RunState, course_of}
-use Rattle.qos_main.specs.Egress.{Begins}
 use Rattle.qos_main.proofs.Choices.{on_err}
 use Rattle.qos_main.proofs.Arrivals.{Begins-same, Begins-advance, arrivals-joined, arrivals-dequeued, course-alone, course-dequeued}
 use Rattle.qos_main.proofs.egress.Egress.arrive.Goals as goal

@@ -1,4 +1,4 @@
-use Rattle.std.proofs.Common.{◌≡◌, length, ap, ◌∙◌, sym}
+use Rattle.std.proofs.Common.{length, ap, ◌∙◌, sym}
 use Rattle.qos_main.proofs.Arrivals.{sends-joined}
 use Rattle.qos_main.proofs.Egresses.{waiting-arrived, output-same}
 use Rattle.qos_main.proofs.egress.Egress.join.Goals as goal
