@@ -1,4 +1,4 @@
-use Rattle.std.proofs.Common.{rules, ◌≡◌, ◌∙◌, ap, get_or, sym}
+use Rattle.std.proofs.Common.{◌∙◌, ap, get_or, sym}
 use Rattle.count_board.proofs.Moves.{ends}
 use Rattle.count_board.proofs.board.CountBoard.close.Goals as goal
 

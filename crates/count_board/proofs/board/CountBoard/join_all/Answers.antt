@@ -1,5 +1,5 @@
-use Rattle.std.proofs.Common.{◌≡◌, ◌+◌, ℕ, List, rules, arith, ap, sym, subst}
-use Rattle.std.specs.List.{sum_by, All}
+use Rattle.std.proofs.Common.{ℕ, List, rules, arith, ap, subst}
+use Rattle.std.specs.List.{sum_by}
 use Rattle.std.proofs.lemmas.List.Sums.{sum_by_push}
 use Rattle.std.proofs.lemmas.List.Elements.{All-pop, All-push, All-same}
 use Rattle.count_board.specs.declared.seat.BoardSeat.{BoardSeat}
