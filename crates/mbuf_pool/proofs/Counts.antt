@@ -1,5 +1,5 @@
 -- Each step of a pass keeps the rule of the count.
-use Rattle.std.proofs.Common.{◌≡◌, ◌≢◌, ℕ, zero, suc, ◌+◌, ◌-◌, ◌*◌, ◌%◌, ◌^◌, ◌<◌, ◌≤◌, ◌||◌, Bool, true, false, List, [], ◌∷◌, ◌++◌, length, get_or, set, cond, eqb, refl, ap, sym, ◌∙◌, subst, ⊎_elim, arith}
+use Rattle.std.proofs.Common.{◌≡◌, ℕ, ◌+◌, ◌-◌, ◌*◌, ◌%◌, ◌^◌, ◌<◌, ◌≤◌, ◌||◌, Bool, true, false, List, [], ◌∷◌, ◌++◌, length, get_or, set, cond, eqb, refl, ap, sym, ◌∙◌, subst, ⊎_elim, arith}
 use Rattle.std.specs.List.{sum_by}
 use Rattle.std.proofs.lemmas.List.{get_or-set_same, length-set, set-get_or}
 use Rattle.std.proofs.lemmas.List.Sums.{sum_by_push}
@@ -10,10 +10,10 @@ use mathlib.Core.Logic.{dite}
 use mathlib.Core.Option.{some, none}
 use lib.ListN.{get_elem?}
 use prog.Atomic.{either}
-use Rattle.atomic_table.specs.Table.{State, Me, Step, step, Act, keeps, Allows, Splits, Joins, opening}
+use Rattle.atomic_table.specs.Table.{State, Me, step, keeps, Allows, Splits, Joins, opening}
 use Rattle.atomic_table.proofs.Lists.{at_set, set_again}
 use Rattle.mbuf_pool.specs.declared.pass.Count.{Count}
-use Rattle.mbuf_pool.specs.FreeCount.{count_of_pass, new_count, IsFreeCount, turned_away, lowered_once, raised_once, Looks, Lowers, Raises, one_count_less, both_counts}
+use Rattle.mbuf_pool.specs.FreeCount.{new_count, IsFreeCount, turned_away, lowered_once, raised_once, Looks, Lowers, Raises, one_count_less, both_counts}
 use Rattle.mbuf_pool.proofs.Sums.{sum_at, sum_within, sum_alone, each_set, each_snoc, only}
 
 abbrev lowered : Count → ℕ

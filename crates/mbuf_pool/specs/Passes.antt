@@ -1,5 +1,5 @@
 -- What contracts see of a pool and of its passes.
-use Rattle.std.specs.Prelude.{◌≡◌, ℕ, ◌<◌, List, [], false, Bool, length}
+use Rattle.std.specs.Prelude.{◌≡◌, ℕ, List, [], false, Bool}
 use Rattle.crossbeam_queue.specs.Passes.{view}
 use Rattle.mbuf_pool.specs.declared.pass.PoolPass.{PoolPass}
 use Rattle.mbuf_pool.specs.declared.pool.Pool.{Pool}

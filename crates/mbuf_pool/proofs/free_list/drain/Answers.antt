@@ -1,4 +1,4 @@
-use Rattle.std.proofs.Common.{◌≡◌, ◌∙◌, ap, subst, sym, length, arith}
+use Rattle.std.proofs.Common.{◌∙◌, ap, subst, arith}
 use Rattle.crossbeam_queue.specs.Passes.{view}
 use Rattle.mbuf_pool.specs.declared.pass.Slots.{Slots}
 use Rattle.mbuf_pool.specs.FreeList.{Free}

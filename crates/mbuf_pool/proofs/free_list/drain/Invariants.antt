@@ -1,5 +1,5 @@
 use Rattle.std.proofs.Common.{◌≡◌, ◌++◌, ◌≤◌, length, vec_capacity}
-use Rattle.crossbeam_queue.specs.Passes.{view, IsSamePass, IsPassOf}
+use Rattle.crossbeam_queue.specs.Passes.{view, IsPassOf}
 use Rattle.mbuf_pool.specs.FreeList.{slots_of_pass}
 use Rattle.mbuf_pool.proofs.free_list.drain.Given as goal
 

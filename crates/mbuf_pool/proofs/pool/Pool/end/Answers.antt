@@ -1,8 +1,6 @@
-use Rattle.std.proofs.Common.{◌≡◌, ◌≤◌, ◌∙◌, ℕ, true, ap, sym, length, arith, rules}
-use Rattle.std.specs.List.{sum_by}
+use Rattle.std.proofs.Common.{◌≡◌, ◌∙◌, ap, arith}
 use Rattle.std.proofs.lemmas.List.Sorted.{sum_by-IsPermutation}
 use Rattle.mbuf_pool.specs.FreeList.{weigh, first_slots}
-use Rattle.mbuf_pool.specs.Passes.{IsPassOf, slots_of, parts_of, taken_by, given_by, has_met_zero}
 use Rattle.mbuf_pool.proofs.Counts.{ends}
 use Rattle.mbuf_pool.proofs.pool.Pool.end.Goals as goal
 
