@@ -1,17 +1,14 @@
 -- Of the messages of one sender.
-use Rattle.std.proofs.Common.{◌≡◌, ◌≢◌, ℕ, zero, suc, ◌+◌, ◌<◌, ◌≤◌, ◌==◌, ◌||◌, Bool, true, false, true≢false, List, [], ◌∷◌, ◌++◌, length, get_or, set, map, cond, eqb, refl, ap, sym, ◌∙◌, subst, append_assoc, append-nil, arith}
-use Rattle.std.specs.List.{All}
+use Rattle.std.proofs.Common.{◌≡◌, ◌≢◌, ℕ, zero, suc, ◌<◌, ◌||◌, Bool, true, false, true≢false, List, [], ◌∷◌, ◌++◌, length, get_or, set, map, cond, eqb, refl, ap, sym, ◌∙◌, subst, append-nil, arith}
 use Rattle.std.proofs.lemmas.List.{map-append, length-set, get_or-set_same, get_or-set_other}
 use native.Mathlib.Decide.{ℕ_discrete}
 use mathlib.Core.Logic.{dite}
 use Rattle.std.proofs.lemmas.Bool.{eq-eqb, ne_eqb}
-use mathlib.Core.Option.{some, some-injective, some-ne-none}
-use lib.ListN.{get_elem?}
 use Rattle.mbuf_pool.specs.declared.mbuf.Mbuf.{Mbuf}
 use Rattle.stage_ring.specs.declared.msg.Msg.{Msg}
 use Rattle.stage_ring.specs.declared.msg.Msg.TheVariants.{Parcel, Fin}
 use Rattle.stage_ring.specs.declared.msg.Posted.{Posted}
-use Rattle.stage_ring.specs.History.{posted, of, is_fin, has_fin, history}
+use Rattle.stage_ring.specs.History.{of, is_fin, has_fin, history}
 
 cons_not_nil : {X : Type 0} (x : X) (xs : List X) → x ∷ xs ≢ []
 cons_not_nil x xs e = cc

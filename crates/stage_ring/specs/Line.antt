@@ -5,7 +5,7 @@
 -- messages of that number, each at the back, and only the one inlet takes, at the front; so what was taken of a sender
 -- and then what lies there of it is what it put, after each step, whatever the other threads have done before. Once an
 -- outlet has put its Fin there is nobody left who could put anything of that number, so what it has put stays all.
-use Rattle.std.specs.Prelude.{◌≡◌, ℕ, ◌+◌, ◌<◌, ◌≤◌, Bool, true, false, Option, Some, None, List, [], ◌∷◌, ◌++◌, length}
+use Rattle.std.specs.Prelude.{◌≡◌, ℕ, ◌+◌, ◌<◌, ◌≤◌, true, false, Option, Some, None, List, [], ◌∷◌, ◌++◌}
 use Rattle.std.specs.List.{All}
 use mathlib.Core.Option.{some}
 use lib.ListN.{get_elem?}

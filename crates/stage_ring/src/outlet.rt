@@ -78,9 +78,10 @@ impl Outlet {
                 self.count += 1;
                 Ok(())
             }
-            Err(x) => Err(Full {
-                parcel: parcel_of(x),
-            }),
+            Err(x) => {
+                let parcel = parcel_of(x);
+                Err(Full { parcel })
+            }
         }
     }
 

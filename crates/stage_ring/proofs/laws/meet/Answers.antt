@@ -1,9 +1,8 @@
-use Rattle.std.proofs.Common.{◌≡◌, ◌∙◌, ◌++◌, ap, subst, inr, true, true≢false, rules}
+use Rattle.std.proofs.Common.{◌≡◌, ◌∙◌, ◌++◌, ap, subst, inr, true}
 use Rattle.crossbeam_queue.specs.Passes.{view}
 use Rattle.stage_ring.specs.declared.line.Known.{Known}
 use Rattle.stage_ring.specs.History.{history, of}
-use Rattle.stage_ring.specs.Line.{with_met, finished}
-use Rattle.stage_ring.specs.Ends.{taken_of, all_sent}
+use Rattle.stage_ring.specs.Line.{with_met}
 use Rattle.stage_ring.proofs.Histories.{whole_history}
 use Rattle.stage_ring.proofs.Rings.{tells, hears, learns, meets}
 use Rattle.stage_ring.proofs.laws.meet.Goals as goal

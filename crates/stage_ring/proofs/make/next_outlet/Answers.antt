@@ -1,4 +1,4 @@
-use Rattle.std.proofs.Common.{◌<◌, ap, arith}
+use Rattle.std.proofs.Common.{ap, arith}
 use Rattle.stage_ring.specs.declared.line.Known.{Known}
 use Rattle.stage_ring.proofs.Rings.{makes}
 use Rattle.stage_ring.proofs.make.next_outlet.Goals as goal

@@ -1,4 +1,4 @@
-use Rattle.std.proofs.Common.{◌≡◌, ◌∙◌, ◌<◌, ℕ, List, ap, sym, subst, length, get_or, arith, rules}
+use Rattle.std.proofs.Common.{◌<◌, ℕ, List, sym, subst, length, get_or, rules}
 use Rattle.stage_ring.specs.declared.outlet.Outlet.{Outlet}
 use Rattle.stage_ring.specs.Ends.{IsNew}
 use Rattle.stage_ring.proofs.Rings.{begins, each_push}

@@ -1,7 +1,6 @@
-use Rattle.std.proofs.Common.{◌≡◌, ◌∙◌, ◌++◌, ◌∷◌, [], ap, sym, subst, inr, refl, length, arith, rules}
+use Rattle.std.proofs.Common.{◌∙◌, ap, sym, subst, inr, rules}
 use Rattle.std.proofs.lemmas.List.{length-set}
 use Rattle.crossbeam_queue.specs.Passes.{view}
-use Rattle.stage_ring.specs.declared.msg.Posted.{Posted}
 use Rattle.stage_ring.specs.declared.line.Known.{Known}
 use Rattle.stage_ring.specs.History.{is_fin}
 use Rattle.stage_ring.proofs.Histories.{Marks, marks_fin, marks_parcel}

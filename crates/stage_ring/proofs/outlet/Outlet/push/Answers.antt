@@ -6,5 +6,5 @@ use Rattle.stage_ring.proofs.outlet.Outlet.push.Goals as goal
 pub push_as-requires-clause-rule : goal.push_as-requires-clause-rule
 push_as-requires-clause-rule g c = (posts_as _ _ _ _ _ c.args.self.now.numbered c.args.self.now.sends, learns _ _ (inl c.args.self.now.sends))
 
-pub parcel_of-requires : goal.parcel_of-requires
-parcel_of-requires g c = (c.args.m, ap (λ (x : Posted). x.msg) c.in-Err.ensures.rule.0)
+pub parcel_of-parcel-requires : goal.parcel_of-parcel-requires
+parcel_of-parcel-requires g c = (c.args.m, ap (λ (x : Posted). x.msg) c.in-Err.ensures.rule.0)
