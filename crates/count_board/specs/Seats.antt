@@ -1,7 +1,9 @@
 -- What contracts see of a board and of its seats.
 use Rattle.std.specs.Prelude.{◌≡◌, ℕ, List, []}
+use Rattle.std.specs.List.{sum_by}
 use Rattle.count_board.specs.declared.seat.BoardSeat.{BoardSeat}
 use Rattle.count_board.specs.declared.board.CountBoard.{CountBoard}
+use Rattle.count_board.specs.Tally.{sum_in}
 
 -- how many words the board has
 abbrev pub words_of : CountBoard → ℕ
@@ -26,3 +28,7 @@ seen_by s = s.seat.me.0.seen
 -- a seat of this board that has added nothing and seen nothing
 abbrev pub IsFresh : CountBoard → BoardSeat → Type 0
 IsFresh b s = IsSeatOf b s × (added_by s ≡ []) × (seen_by s ≡ [])
+
+-- what these seats added to a word, in all
+abbrev pub added_in_all : ℕ → List BoardSeat → ℕ
+added_in_all word seats = sum_by (λ s. sum_in word (added_by s)) seats

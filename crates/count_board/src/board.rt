@@ -33,7 +33,7 @@ impl CountBoard {
     ghost use Rattle.std.specs.Prelude.{ℕ, ◌+◌, ◌*◌, ◌^◌, ◌<◌, ◌≤◌, [], ◌∷◌, ◌++◌, length, slice_index, List, IfOk};
     ghost use Rattle.std.specs.List.{sum_by, All};
     ghost use Rattle.count_board.specs.Tally.{sum_in, sum_of, last_in, IsSeen};
-    ghost use Rattle.count_board.specs.Seats.{words_of, IsSeatOf, IsFresh, parts_of, added_by, seen_by};
+    ghost use Rattle.count_board.specs.Seats.{words_of, IsSeatOf, IsFresh, parts_of, added_by, seen_by, added_in_all};
 
     /// A board of so many words, all 0, and its seats, of which none has added or seen anything.
     ///
@@ -143,7 +143,7 @@ impl CountBoard {
         requires some { 1 ≤ sum_by parts_of seats.items }
         ensures seat { IsSeatOf self.now result }
         ensures parts { parts_of result ≡ sum_by parts_of seats.items }
-        ensures added { (word : ℕ) → sum_in word (added_by result) ≡ sum_by (λ s. sum_in word (added_by s)) seats.items }
+        ensures added { (word : ℕ) → sum_in word (added_by result) ≡ added_in_all word seats.items }
         ensures seen { (words : List ℕ) → IsSeen words (seen_by result) → All (λ s. IsSeen words (seen_by s)) seats.items }
     {
         let Some(mut all) = seats.pop() else {
@@ -163,7 +163,7 @@ impl CountBoard {
         requires mine { All (λ s. IsSeatOf self s) seats.items }
         requires all { sum_by parts_of seats.items ≡ 48 }
         ensures words { IfOk result (λ r. length r.items ≡ words_of self) }
-        ensures sums { IfOk result (λ r. (word : ℕ) → word < words_of self → slice_index r.items word ≡ sum_by (λ s. sum_in word (added_by s)) seats.items) }
+        ensures sums { IfOk result (λ r. (word : ℕ) → word < words_of self → slice_index r.items word ≡ added_in_all word seats.items) }
         ensures seen { IfOk result (λ r. All (λ s. IsSeen r.items (seen_by s)) seats.items) }
     {
         let count = self.table.word_count();

@@ -1,8 +1,10 @@
 -- What contracts see of a pool and of its passes.
-use Rattle.std.specs.Prelude.{◌≡◌, ℕ, List, [], false, Bool}
+use Rattle.std.specs.Prelude.{◌≡◌, ℕ, ◌+◌, List, [], false, Bool, length}
+use Rattle.std.specs.List.{sum_by}
 use Rattle.crossbeam_queue.specs.Passes.{view}
 use Rattle.mbuf_pool.specs.declared.pass.PoolPass.{PoolPass}
 use Rattle.mbuf_pool.specs.declared.pool.Pool.{Pool}
+use Rattle.mbuf_pool.specs.FreeList.{weigh, first_slots}
 
 -- how many slots the pool has, and how many bytes each of them
 abbrev pub slots_of : Pool → ℕ
@@ -51,3 +53,12 @@ pub record IsFresh (pool : Pool) (p : PoolPass) : Type 0 where
   pub given : given_by p ≡ []
   pub met_zero : has_met_zero p ≡ false
   pub answers : answers_of p ≡ []
+
+-- as bags: these free slots with all slots that the passes took are the pool's first slots with all slots that the passes gave
+abbrev pub IsAllOf : Pool → List PoolPass → List ℕ → Type 0
+IsAllOf pool passes free =
+    (h : ℕ → ℕ) → weigh h free + sum_by (λ p. weigh h (taken_by p)) passes ≡ weigh h (first_slots (slots_of pool)) + sum_by (λ p. weigh h (given_by p)) passes
+
+-- how many slots the passes took, in all
+abbrev pub takes_in_all : List PoolPass → ℕ
+takes_in_all passes = sum_by (λ p. length (taken_by p)) passes

@@ -42,8 +42,8 @@ impl Pool {
     ghost use Rattle.std.specs.List.Sorted.{IsSorted};
     ghost use Rattle.std.specs.Option.{is_some};
     ghost use Rattle.std.specs.Ordering.{nat_cmp};
-    ghost use Rattle.mbuf_pool.specs.FreeList.{IsSlot, weigh, first_slots};
-    ghost use Rattle.mbuf_pool.specs.Passes.{slots_of, bytes_of, IsPassOf, IsFresh, parts_of, taken_by, given_by, has_met_zero, answers_of};
+    ghost use Rattle.mbuf_pool.specs.FreeList.{IsSlot, weigh};
+    ghost use Rattle.mbuf_pool.specs.Passes.{slots_of, bytes_of, IsPassOf, IsFresh, parts_of, taken_by, given_by, has_met_zero, answers_of, IsAllOf, takes_in_all};
 
     /// A pool of `slots` slots of `bytes` bytes, all free and numbered from 0, and its passes.
     ///
@@ -176,7 +176,7 @@ impl Pool {
         ensures parts { parts_of result ≡ sum_by parts_of passes.items }
         ensures taken { (h : ℕ → ℕ) → weigh h (taken_by result) ≡ sum_by (λ p. weigh h (taken_by p)) passes.items }
         ensures given { (h : ℕ → ℕ) → weigh h (given_by result) ≡ sum_by (λ p. weigh h (given_by p)) passes.items }
-        ensures count { length (taken_by result) ≡ sum_by (λ p. length (taken_by p)) passes.items }
+        ensures count { length (taken_by result) ≡ takes_in_all passes.items }
         ensures met_zero { All (λ p. has_met_zero p ≡ true → has_met_zero result ≡ true) passes.items }
     {
         let Some(mut all) = passes.pop() else {
@@ -198,8 +198,8 @@ impl Pool {
         requires mine { All (IsPassOf self) passes.items }
         requires all { sum_by parts_of passes.items ≡ 48 }
         ensures rising { IsSorted nat_cmp result.free.items }
-        ensures bags { (h : ℕ → ℕ) → weigh h result.free.items + sum_by (λ p. weigh h (taken_by p)) passes.items ≡ weigh h (first_slots (slots_of self)) + sum_by (λ p. weigh h (given_by p)) passes.items }
-        ensures turned_away { All (λ p. has_met_zero p ≡ true → slots_of self ≤ sum_by (λ q. length (taken_by q)) passes.items) passes.items }
+        ensures bags { IsAllOf self passes.items result.free.items }
+        ensures turned_away { All (λ p. has_met_zero p ≡ true → slots_of self ≤ takes_in_all passes.items) passes.items }
     {
         let all = self.join_all(passes);
         let Pool {

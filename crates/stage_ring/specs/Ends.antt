@@ -1,5 +1,5 @@
 -- What contracts see of the ends of a ring.
-use Rattle.std.specs.Prelude.{◌≡◌, ℕ, ◌<◌, true, List, []}
+use Rattle.std.specs.Prelude.{◌≡◌, ℕ, ◌<◌, true, List, [], ◌∷◌, ◌++◌, length}
 use Rattle.std.specs.Arc.{arc_value}
 use Rattle.crossbeam_queue.specs.Passes.{view, ruled_capacity}
 use Rattle.atomic_table.specs.Seated.{TableId}
@@ -10,7 +10,7 @@ use Rattle.stage_ring.specs.declared.line.Known.{Known}
 use Rattle.stage_ring.specs.declared.outlet.Outlet.{Outlet}
 use Rattle.stage_ring.specs.declared.outlet.Sent.{Sent}
 use Rattle.stage_ring.specs.declared.inlet.Inlet.{Inlet}
-use Rattle.stage_ring.specs.History.{of, has_fin, history}
+use Rattle.stage_ring.specs.History.{posted, of, has_fin, history, HasNumber}
 
 -- which ring it is
 abbrev pub outlet_ring : Outlet → TableId
@@ -47,7 +47,7 @@ outlet_knows o = view o.pass
 abbrev pub inlet_knows : Inlet → Known
 inlet_knows i = view i.pass
 
--- the same end of the same ring
+-- the same outlet of the same ring
 pub record IsSameOutlet (old new : Outlet) : Type 0 where
   pub ring : outlet_ring new ≡ outlet_ring old
   pub number : number_of new ≡ number_of old
@@ -68,10 +68,17 @@ taken_of sender i = of sender (taken_by i)
 abbrev pub met_by : Inlet → List (ℕ × List Msg)
 met_by i = (view i.pass).met
 
+-- the same inlet of the same ring
 pub record IsSameInlet (old new : Inlet) : Type 0 where
   pub ring : inlet_ring new ≡ inlet_ring old
   pub senders : senders_of new ≡ senders_of old
-  pub met : met_by new ≡ met_by old
+
+-- a message was taken: it is the next, and of one of the senders
+pub record IsNext (old new : Inlet) (m : Msg) : Type 0 where
+  pub sender : ℕ
+  pub within : sender < senders_of old
+  pub numbered : HasNumber sender m
+  pub taken : taken_by new ≡ taken_by old ++ posted sender m ∷ []
 
 -- the Fin of each sender was taken
 abbrev pub IsEnded : Inlet → Type 0
@@ -84,3 +91,17 @@ pub record IsNew (ring : TableId) (capacity senders number : ℕ) (o : Outlet) :
   pub holds : capacity_of o ≡ capacity
   pub knows : (outlet_knows o).senders ≡ senders
   pub parcels : parcels_put o ≡ []
+
+-- what is left of an outlet that has ended
+pub record IsSentBy (o : Outlet) (s : Sent) : Type 0 where
+  pub ring : sent_ring s ≡ outlet_ring o
+  pub number : s.sender ≡ number_of o
+  pub count : s.count ≡ length (parcels_put o)
+  pub parcels : parcels_sent s ≡ parcels_put o
+
+-- the same, again
+pub record IsSameSent (old new : Sent) : Type 0 where
+  pub ring : sent_ring new ≡ sent_ring old
+  pub number : new.sender ≡ old.sender
+  pub count : new.count ≡ old.count
+  pub parcels : parcels_sent new ≡ parcels_sent old

@@ -25,8 +25,7 @@ pub struct Inlet {
 impl Inlet {
     ghost use Rattle.std.specs.Prelude.{[], ◌∷◌, ◌++◌, ◌↔◌, IsTrue, IfSome, IfNone, MatchOption};
     ghost use Rattle.crossbeam_queue.specs.Fifo.{Held};
-    ghost use Rattle.stage_ring.specs.History.{posted, HasNumber};
-    ghost use Rattle.stage_ring.specs.Ends.{inlet_ring, senders_of, taken_by, inlet_knows, met_by, IsSameInlet, IsEnded};
+    ghost use Rattle.stage_ring.specs.Ends.{inlet_ring, taken_by, inlet_knows, met_by, IsSameInlet, IsNext, IsEnded};
     ghost use Rattle.stage_ring.specs.Line.{MayHold};
 
     // The inlet of a ring that has made its senders.
@@ -51,7 +50,8 @@ impl Inlet {
     /// It may wait for another thread that is just putting a message.
     pub fn take<R: Wait>(&mut self, rt: &R) -> Option<Msg>
         ensures same { IsSameInlet self.old self.new }
-        ensures some { IfSome result (λ m. (sender : ℕ) × (sender < senders_of self.old) × HasNumber sender m × (taken_by self.new ≡ taken_by self.old ++ posted sender m ∷ [])) }
+        ensures met { met_by self.new ≡ met_by self.old }
+        ensures some { IfSome result (IsNext self.old self.new) }
         ensures none { IfNone result (taken_by self.new ≡ taken_by self.old) }
         ensures empty { IfNone result (Held 0 (MayHold (inlet_knows self.old))) }
     {

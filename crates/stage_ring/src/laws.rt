@@ -1,6 +1,6 @@
 //! Where the ends of a ring meet.
-ghost use Rattle.std.specs.Prelude.{◌≡◌, ℕ, ◌∷◌, ◌++◌, [], List, true};
-ghost use Rattle.stage_ring.specs.Ends.{inlet_ring, senders_of, taken_by, taken_of, met_by, sent_ring, parcels_sent, all_sent, IsEnded};
+ghost use Rattle.std.specs.Prelude.{◌≡◌, ℕ, ◌∷◌, ◌++◌, [], List, true, length};
+ghost use Rattle.stage_ring.specs.Ends.{inlet_ring, taken_by, taken_of, met_by, sent_ring, parcels_sent, all_sent, IsSameInlet, IsSameSent, IsEnded};
 ghost use Rattle.stage_ring.specs.declared.msg.Msg.{Msg};
 
 use crate::inlet::Inlet;
@@ -14,9 +14,11 @@ use std::sync::Wait;
 /// They are of one ring.
 pub fn meet<R: Wait>(_rt: &R, inlet: &mut Inlet, mut sent: Sent) -> Sent
     requires { sent_ring sent ≡ inlet_ring inlet.old }
-    ensures inlet { (inlet_ring inlet.new ≡ inlet_ring inlet.old) × (senders_of inlet.new ≡ senders_of inlet.old) × (taken_by inlet.new ≡ taken_by inlet.old) }
+    ensures same { IsSameInlet inlet.old inlet.new }
+    ensures taken { taken_by inlet.new ≡ taken_by inlet.old }
     ensures met { met_by inlet.new ≡ met_by inlet.old ++ (sent.sender, all_sent sent) ∷ [] }
-    ensures sent { (result.sender ≡ sent.sender) × (result.count ≡ sent.count) × (parcels_sent result ≡ parcels_sent sent) × (sent_ring result ≡ sent_ring sent) }
+    ensures sent { IsSameSent sent result }
+    ensures count { sent.count ≡ length (parcels_sent sent) }
     ensures first_part { (rest : List Msg) × (taken_of sent.sender inlet.old ++ rest ≡ all_sent sent) }
     ensures whole { IsEnded inlet.old → taken_of sent.sender inlet.old ≡ all_sent sent }
 {

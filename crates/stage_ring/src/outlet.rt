@@ -54,7 +54,7 @@ fn parcel_of(x: Posted) -> Mbuf
 impl Outlet {
     ghost use Rattle.std.specs.Prelude.{ℕ, ◌+◌, ◌^◌, ◌<◌, [], ◌∷◌, ◌++◌, true, Ok, IfErr, IfOk, OnOk, MatchResult};
     ghost use Rattle.crossbeam_queue.specs.Fifo.{Held};
-    ghost use Rattle.stage_ring.specs.Ends.{number_of, outlet_ring, capacity_of, parcels_put, sent_ring, parcels_sent, outlet_knows, IsSameOutlet};
+    ghost use Rattle.stage_ring.specs.Ends.{capacity_of, parcels_put, outlet_knows, IsSameOutlet, IsSentBy};
     ghost use Rattle.stage_ring.specs.Line.{MayHold};
 
     /// Puts a parcel into the ring. Full only where the ring held as many messages as its capacity at one
@@ -88,7 +88,7 @@ impl Outlet {
     /// Ends the sender: puts its Fin into the ring, as its last message. The outlet comes back, as it was,
     /// only where the ring held as many messages as its capacity at one moment of the call.
     pub fn finish<R: Wait>(self, rt: &R) -> Result<Sent, Outlet>
-        ensures sent { IfOk result (λ s. (s.sender ≡ number_of self) × (s.count ≡ length (parcels_put self)) × (parcels_sent s ≡ parcels_put self) × (sent_ring s ≡ outlet_ring self)) }
+        ensures sent { IfOk result (IsSentBy self) }
         ensures back { IfErr result (λ o. IsSameOutlet self o × (parcels_put o ≡ parcels_put self)) }
         ensures full { IfErr result (λ _. Held (capacity_of self) (MayHold (outlet_knows self))) }
     {
