@@ -9,6 +9,7 @@
 
 mod count;
 mod free_list;
+pub mod laws;
 mod mbuf;
 mod pass;
 mod plays;

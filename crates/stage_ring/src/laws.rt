@@ -11,7 +11,7 @@ use std::sync::Wait;
 /// What was taken of a sender is a first part of what it put; once the inlet has ended it is all of it.
 /// Both come back as they were, and from now on the inlet knows all that this sender put.
 ///
-/// They are of one ring.
+/// They are of one ring. The handle is that of the ring's other calls.
 pub fn meet<R: Wait>(_rt: &R, inlet: &mut Inlet, mut sent: Sent) -> Sent
     requires { sent_ring sent ≡ inlet_ring inlet.old }
     ensures same { IsSameInlet inlet.old inlet.new }

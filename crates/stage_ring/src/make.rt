@@ -17,7 +17,7 @@ use std::sync::{Arc, Wait};
 /// A ring that holds `capacity` messages at most: an outlet for each sender, in order of their numbers
 /// from 0, and the inlet.
 ///
-/// Both are at least 1, and there are at most 48 senders.
+/// Both are at least 1, and there are at most 48 senders. The handle is that of the ring's other calls.
 pub fn ring<R: Wait>(
     _rt: &R,
     alloc: Global,
