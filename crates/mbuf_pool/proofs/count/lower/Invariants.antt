@@ -1,0 +1,9 @@
+use Rattle.std.proofs.Common.{◌≡◌, ◌<◌}
+use Rattle.mbuf_pool.proofs.count.lower.Given as goal
+
+abbrev pub invariant-loop : goal.invariant-loop
+invariant-loop g l = record {
+  table : l.seat.table_id ≡ l.fn.seat.table_id;
+  me : l.seat.me ≡ l.fn.seat.me;
+  part : 0 < l.seat.me.0.parts;
+}

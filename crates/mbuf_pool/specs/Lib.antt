@@ -1,0 +1,3 @@
+pub mod FreeCount
+pub mod FreeList
+pub mod Passes
