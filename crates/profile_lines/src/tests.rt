@@ -28,7 +28,7 @@ fn lines_are_told_apart(rt: HostRuntime) {
         ("\t[ subport\tprofile  7 ] ; x", (2, 3, 0)),
         ("[]", (2, 0, 0)),
         ("[a=b]", (2, 1, 0)),
-        ("[x = 1", (3, 2, 1)),
+        ("[x = 1", (3, 1, 1)),
         ("[x", (4, 0, 0)),
         ("line rate=5", (3, 2, 1)),
         ("a = b = c", (3, 1, 3)),
