@@ -1,0 +1,5 @@
+pub mod Table
+pub mod Values
+pub mod Heads
+pub mod Facts
+pub mod Sections

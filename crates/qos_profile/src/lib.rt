@@ -1,0 +1,20 @@
+//! The profile text: reading a profile, with the first fault of a text that is none.
+//!
+//! It stands on `profile_lines` for the lines of a text and on `profile_plan` for what a profile says, and
+//! gives that out.
+#![tactic(auto)]
+
+mod fact;
+mod fault;
+mod head;
+mod matching;
+mod name;
+mod reading;
+mod section;
+mod table;
+mod value;
+
+pub use fault::{FaultKind, ProfileError, ProfileFault};
+
+#[cfg(test)]
+mod tests;
