@@ -12,7 +12,7 @@ mod split;
 pub use blanks::words;
 pub use line::{Line, read_line};
 pub use number::{read_number, read_range};
-pub use split::split_line;
+pub use split::{cut, split_line};
 
 #[cfg(test)]
 mod tests;

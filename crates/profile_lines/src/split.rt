@@ -1,6 +1,6 @@
 //! A text to its lines.
 ghost use Rattle.std.specs.Prelude.{◌≡◌, ◌<◌, ◌≤◌, ◌∷◌, ◌==◌, length};
-ghost use Rattle.std.specs.List.{position_or_len};
+ghost use Rattle.std.specs.List.{position_or_len, before_first, after_first};
 ghost use Rattle.std.specs.Str.Lines.{lines, strip_carriage_return};
 
 /// The first line of a text that is not empty, and the text after it.
@@ -40,4 +40,16 @@ pub(crate) fn first_place(bytes: &[u8], wanted: u8) -> usize
         }
     }
     bytes.len()
+}
+
+/// What stands before and after the first of these bytes; where there is none, all and nothing.
+pub fn cut(bytes: &[u8], mark: u8) -> (&[u8], &[u8])
+    ensures front { result.0.now ≡ before_first (λ b. b == mark) bytes.now }
+    ensures rest { result.1.now ≡ after_first (λ b. b == mark) bytes.now }
+{
+    let place = first_place(bytes, mark);
+    if place == bytes.len() {
+        return (bytes, &bytes[place..]);
+    }
+    (&bytes[..place], &bytes[place + 1..])
 }

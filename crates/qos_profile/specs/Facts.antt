@@ -1,6 +1,6 @@
 -- What a key line gives in its section, or its fault.
 use Rattle.std.specs.Prelude.{◌==◌, ℕ, Bool, true, false, not, ◌&&◌, ◌||◌, nat_le, if◌then◌else◌, codes, List, [], ◌∷◌, ◌++◌, length, find, Option, None, Some, Result, Ok, Err}
-use Rattle.std.specs.List.{list_any, filter_map}
+use Rattle.std.specs.List.{list_any, position_or_len}
 use Rattle.profile_lines.specs.Numbers.{number_of, range_of}
 use Rattle.profile_lines.specs.Lines.{Line}
 use Rattle.profile_lines.specs.Lines as lines
@@ -16,7 +16,7 @@ use Rattle.qos_profile.specs.declared.table.Only.{Only}
 use Rattle.qos_profile.specs.declared.table.Only.TheVariants as only
 use Rattle.qos_profile.specs.declared.fact.Fact.{Fact}
 use Rattle.qos_profile.specs.Table.{Key, pool_keys, port_keys, subport_kind_keys, pipe_kind_keys, subport_keys, code_keys, meter_keys, rule_keys}
-use Rattle.qos_profile.specs.Values.{value_of}
+use Rattle.qos_profile.specs.Values.{value_of, word_at}
 use Rattle.qos_profile.specs.Heads.{fits, number_at_most}
 
 -- the keys of a section
@@ -31,11 +31,9 @@ keys_of (heads.Meter name) = meter_keys
 keys_of (heads.Rule n) = rule_keys
 keys_of heads.Red = []
 
--- the word that stands at a pattern's empty word
+-- the word that stands at a pattern's empty word, or nothing
 abbrev pub word_in_place : List (List ℕ) → List (List ℕ) → List ℕ
-word_in_place (p ∷ ps) (w ∷ ws) = if length p == 0 then w else word_in_place ps ws
-word_in_place [] ws = []
-word_in_place (p ∷ ps) [] = []
+word_in_place pattern words = word_at words (position_or_len (λ p. length p == 0) pattern)
 
 abbrev pub range_in : ℕ → Option (ℕ × ℕ) → Result (ℕ × ℕ) FaultKind
 range_in most (Some range) = if nat_le range.0 range.1 && nat_le range.1 most then Ok range else Err OutOfRange

@@ -1,5 +1,5 @@
 -- The heads of sections, and how keys and heads are matched with words.
-use Rattle.std.specs.Prelude.{◌==◌, ℕ, zero, suc, Bool, true, false, ◌&&◌, ◌||◌, nat_le, if◌then◌else◌, codes, List, [], ◌∷◌, length, Option, None, Some, Result, Ok, Err}
+use Rattle.std.specs.Prelude.{◌==◌, ℕ, Bool, true, false, ◌&&◌, ◌||◌, nat_le, if◌then◌else◌, codes, List, [], ◌∷◌, length, Option, None, Some, Result, Ok, Err}
 use Rattle.std.specs.Str.{bytes_eq}
 use Rattle.profile_lines.specs.Numbers.{number_of}
 use Rattle.qos_profile.specs.declared.fault.FaultKind.{FaultKind}
@@ -7,7 +7,7 @@ use Rattle.qos_profile.specs.declared.fault.FaultKind.TheVariants.{UnknownKey, B
 use Rattle.qos_profile.specs.declared.name.Name.{Name}
 use Rattle.qos_profile.specs.declared.head.Head.{Head}
 use Rattle.qos_profile.specs.declared.head.Head.TheVariants as heads
-use Rattle.qos_profile.specs.Values.{in_range, name_of}
+use Rattle.qos_profile.specs.Values.{in_range, name_of, word_at}
 
 -- the words are those of a pattern, whose empty words stand for any one
 abbrev pub fits : List (List ℕ) → List (List ℕ) → Bool
@@ -15,12 +15,6 @@ fits [] [] = true
 fits (p ∷ ps) (w ∷ ws) = (length p == 0 || bytes_eq p w) && fits ps ws
 fits [] (w ∷ ws) = false
 fits (p ∷ ps) [] = false
-
--- the word at a place
-abbrev pub word_at : List (List ℕ) → ℕ → List ℕ
-word_at [] n = []
-word_at (w ∷ ws) zero = w
-word_at (w ∷ ws) (suc n) = word_at ws n
 
 abbrev pub number_at_most : ℕ → List ℕ → Result ℕ FaultKind
 number_at_most most word = in_range 0 most (number_of word)
@@ -31,7 +25,8 @@ numbered make (Err fault) = Err fault
 
 abbrev pub subport_head : Option ℕ → Option ℕ → Result Head FaultKind
 subport_head (Some port) (Some subport) = Ok (heads.Subport port subport)
-subport_head _ _ = Err BadNumber
+subport_head (Some port) None = Err BadNumber
+subport_head None subport = Err BadNumber
 
 abbrev pub meter_head : Option Name → Result Head FaultKind
 meter_head (Some name) = Ok (heads.Meter name)

@@ -1,6 +1,6 @@
 -- What the words of a value mean.
-use Rattle.std.specs.Prelude.{◌==◌, ℕ, ◌+◌, ◌-◌, ◌*◌, ◌/◌, ◌^◌, Bool, true, false, not, ◌&&◌, ◌||◌, nat_le, nat_lt, if◌then◌else◌, codes, List, [], ◌∷◌, ◌++◌, length, map, replicate, position, slice_index, is_some, unwrap_or, Option, None, Some, Result, Ok, Err}
-use Rattle.std.specs.List.{list_all, slice_split, before_first, after_first, list_any}
+use Rattle.std.specs.Prelude.{◌==◌, ℕ, ◌+◌, ◌-◌, ◌*◌, ◌/◌, ◌^◌, Bool, true, false, not, ◌&&◌, ◌||◌, nat_le, nat_lt, if◌then◌else◌, codes, List, [], ◌∷◌, ◌++◌, length, map, replicate, slice_index, slice_index_or, is_some, unwrap_or, Option, None, Some, Result, Ok, Err}
+use Rattle.std.specs.List.{list_all, position_or_len, before_first, after_first}
 use Rattle.std.specs.Str.{bytes_eq}
 use Rattle.std.specs.Option.{option_map}
 use Rattle.profile_lines.specs.Numbers.{number_of, range_of}
@@ -21,21 +21,29 @@ abbrev pub in_range : ℕ → ℕ → Option ℕ → Result ℕ FaultKind
 in_range least most (Some n) = if nat_le least n && nat_le n most then Ok n else Err OutOfRange
 in_range least most None = Err BadNumber
 
+-- the word at a place
+abbrev pub word_at : List (List ℕ) → ℕ → List ℕ
+word_at words n = slice_index_or words n []
+
 -- one word that is a number in a range
-unfoldable pub number_in : ℕ → ℕ → List (List ℕ) → Result ℕ FaultKind
-number_in least most (word ∷ []) = in_range least most (number_of word)
-number_in least most [] = Err BadNumber
-number_in least most (a ∷ b ∷ more) = Err BadNumber
+abbrev pub number_in : ℕ → ℕ → List (List ℕ) → Result ℕ FaultKind
+number_in least most words = if length words == 1 then in_range least most (number_of (word_at words 0)) else Err BadNumber
 
 abbrev pub as_number : Result ℕ FaultKind → Result Value FaultKind
 as_number (Ok n) = Ok (values.Number n)
 as_number (Err fault) = Err fault
 
+-- a place below an end
+abbrev pub found_at : ℕ → ℕ → Option ℕ
+found_at place end = if nat_lt place end then Some place else None
+
 -- the place of a word among some
+abbrev pub place_among : List (List ℕ) → List ℕ → Option ℕ
+place_among choices word = found_at (position_or_len (λ w. bytes_eq w word) choices) (length choices)
+
+-- the same for words, of which there is one
 abbrev pub choice_of : List (List ℕ) → List (List ℕ) → Option ℕ
-choice_of choices (word ∷ []) = position (λ w. bytes_eq w word) choices
-choice_of choices [] = None
-choice_of choices (a ∷ b ∷ more) = None
+choice_of choices words = if length words == 1 then place_among choices (word_at words 0) else None
 
 abbrev pub as_word : Option ℕ → Result Value FaultKind → Result Value FaultKind
 as_word (Some n) other = Ok (values.Word n)
@@ -48,11 +56,17 @@ number_or_zero word = unwrap_or (number_of word) 0
 abbrev pub is_within : ℕ → ℕ → ℕ → Bool
 is_within least most n = nat_le least n && nat_le n most
 
--- so many words, each a number in its range
+abbrev pub are_numbers : ℕ → List (List ℕ) → Bool
+are_numbers count words = length words == count && list_all (λ w. is_some (number_of w)) words
+
+abbrev pub are_within : ℕ → ℕ → List (List ℕ) → Bool
+are_within least most words = list_all (λ w. is_within least most (number_or_zero w)) words
+
+-- so many words, each a number, and each in its range
 unfoldable pub numbers_in : ℕ → ℕ → ℕ → List (List ℕ) → Result (List ℕ) FaultKind
 numbers_in count least most words =
-    if length words == count && list_all (λ w. is_some (number_of w)) words
-    then (if list_all (λ w. is_within least most (number_or_zero w)) words then Ok (map number_or_zero words) else Err OutOfRange)
+    if are_numbers count words
+    then (if are_within least most words then Ok (map number_or_zero words) else Err OutOfRange)
     else Err BadNumber
 
 abbrev pub as_sizes : Result (List ℕ) FaultKind → Result Value FaultKind
@@ -63,33 +77,50 @@ abbrev pub as_weights : Result (List ℕ) FaultKind → Result Value FaultKind
 as_weights (Ok ns) = Ok (values.Weights ns)
 as_weights (Err fault) = Err fault
 
--- the four octets of an address as one number
-abbrev pub address_of : List ℕ → ℕ
-address_of (a ∷ b ∷ c ∷ d ∷ []) = ((a * 256 + b) * 256 + c) * 256 + d
-address_of _ = 0
+-- four octets as one number
+abbrev pub address_of : ℕ → ℕ → ℕ → ℕ → ℕ
+address_of a b c d = ((a * 256 + b) * 256 + c) * 256 + d
 
 -- an address whose bits past n are 0
 abbrev pub masked : ℕ → ℕ → ℕ
 masked address n = address / 2 ^ (32 - n) * 2 ^ (32 - n)
 
-abbrev pub prefix_with : Result (List ℕ) FaultKind → Result (List ℕ) FaultKind → Result Value FaultKind
-prefix_with (Ok octets) (Ok bits) =
-    Ok (values.Prefix (record { addr = masked (address_of octets) (slice_index bits 0); bits = slice_index bits 0 }))
-prefix_with (Err BadNumber) _ = Err BadNumber
-prefix_with _ (Err BadNumber) = Err BadNumber
-prefix_with _ _ = Err OutOfRange
+-- what stands before and after the first of these bytes
+abbrev pub front : ℕ → List ℕ → List ℕ
+front mark bytes = before_first (λ b. b == mark) bytes
+
+abbrev pub rest : ℕ → List ℕ → List ℕ
+rest mark bytes = after_first (λ b. b == mark) bytes
+
+-- an address of four octets and its length: each a number, and each at most its limit
+abbrev pub prefix_with : Option ℕ → Option ℕ → Option ℕ → Option ℕ → Option ℕ → Result Value FaultKind
+prefix_with (Some a) (Some b) (Some c) (Some d) (Some bits) =
+    if is_within 0 255 a && is_within 0 255 b && is_within 0 255 c && is_within 0 255 d && is_within 0 32 bits
+    then Ok (values.Prefix (record { addr = masked (address_of a b c d) bits; bits = bits }))
+    else Err OutOfRange
+prefix_with (Some a) (Some b) (Some c) (Some d) None = Err BadNumber
+prefix_with (Some a) (Some b) (Some c) None bits = Err BadNumber
+prefix_with (Some a) (Some b) None d bits = Err BadNumber
+prefix_with (Some a) None c d bits = Err BadNumber
+prefix_with None b c d bits = Err BadNumber
+
+abbrev pub prefix_from : List ℕ → List ℕ → List ℕ → List ℕ → List ℕ → Result Value FaultKind
+prefix_from a b c d bits = prefix_with (number_of a) (number_of b) (number_of c) (number_of d) (number_of bits)
+
+-- the octets stand before, between and after three dots
+abbrev pub prefix_at : List ℕ → List ℕ → Result Value FaultKind
+prefix_at address bits =
+    prefix_from (front 46 address) (front 46 (rest 46 address)) (front 46 (rest 46 (rest 46 address))) (rest 46 (rest 46 (rest 46 address))) bits
 
 -- `a.b.c.d/n`: an octet is at most 255, n at most 32
-unfoldable pub prefix_of : List ℕ → Result Value FaultKind
-prefix_of word =
-    if list_any (λ b. b == 47) word
-    then prefix_with (numbers_in 4 0 255 (slice_split (λ b. b == 46) (before_first (λ b. b == 47) word))) (numbers_in 1 0 32 (after_first (λ b. b == 47) word ∷ []))
-    else Err BadNumber
+abbrev pub prefix_of : List ℕ → Result Value FaultKind
+prefix_of word = prefix_at (front 47 word) (rest 47 word)
 
 unfoldable pub prefix_or_any : List (List ℕ) → Result Value FaultKind
-prefix_or_any (word ∷ []) = if bytes_eq word (codes "any") then Ok (values.Word 0) else prefix_of word
-prefix_or_any [] = Err BadNumber
-prefix_or_any (a ∷ b ∷ more) = Err BadNumber
+prefix_or_any words =
+    if length words == 1
+    then (if bytes_eq (word_at words 0) (codes "any") then Ok (values.Word 0) else prefix_of (word_at words 0))
+    else Err BadNumber
 
 abbrev pub colours : List (List ℕ)
 colours = codes "green" ∷ codes "yellow" ∷ codes "red" ∷ []
@@ -106,20 +137,25 @@ entry_with (Some class) (Some queue) (Some colour) =
     if is_place class queue
     then Ok (values.Entry (record { class = class; queue = queue; colour = colour_at colour }))
     else Err OutOfRange
-entry_with _ _ _ = Err BadNumber
+entry_with (Some class) (Some queue) None = Err BadNumber
+entry_with (Some class) None colour = Err BadNumber
+entry_with None queue colour = Err BadNumber
 
 -- `C Q COLOUR`
+abbrev pub entry_at : List ℕ → List ℕ → List ℕ → Result Value FaultKind
+entry_at class queue colour = entry_with (number_of class) (number_of queue) (place_among colours colour)
+
 unfoldable pub entry_of : List (List ℕ) → Result Value FaultKind
-entry_of (class ∷ queue ∷ colour ∷ []) = entry_with (number_of class) (number_of queue) (choice_of colours (colour ∷ []))
-entry_of _ = Err BadNumber
+entry_of words = if length words == 3 then entry_at (word_at words 0) (word_at words 1) (word_at words 2) else Err BadNumber
 
 -- `dscp`, or `fixed C Q COLOUR`
 unfoldable pub code_of : List (List ℕ) → Result Value FaultKind
-code_of [] = Err BadNumber
-code_of (word ∷ words) =
-    if bytes_eq word (codes "dscp") && length words == 0
+code_of words =
+    if length words == 1 && bytes_eq (word_at words 0) (codes "dscp")
     then Ok (values.Word 0)
-    else (if bytes_eq word (codes "fixed") then entry_of words else Err BadNumber)
+    else (if length words == 4 && bytes_eq (word_at words 0) (codes "fixed")
+    then entry_at (word_at words 1) (word_at words 2) (word_at words 3)
+    else Err BadNumber)
 
 -- the characters of a name: a to z, 0 to 9 and `_`
 abbrev pub is_name_byte : ℕ → Bool
@@ -138,9 +174,7 @@ as_name (Some name) = Ok (values.Name name)
 as_name None = Err BadNumber
 
 abbrev pub one_name : List (List ℕ) → Result Value FaultKind
-one_name (word ∷ []) = as_name (name_of word)
-one_name [] = Err BadNumber
-one_name (a ∷ b ∷ more) = Err BadNumber
+one_name words = if length words == 1 then as_name (name_of (word_at words 0)) else Err BadNumber
 
 -- the value that the words write
 unfoldable pub value_of : Form → List (List ℕ) → Result Value FaultKind
