@@ -1,2 +1,4 @@
+pub mod Courses
+pub mod Growing
 pub mod Numbers
 pub mod Patterns

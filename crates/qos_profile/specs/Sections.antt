@@ -1,6 +1,6 @@
 -- The sections of a text and the first fault of a line. A line is judged with the lines before it; a section has the lines up
 -- to the next head.
-use Rattle.std.specs.Prelude.{◌==◌, ℕ, ◌+◌, Bool, true, false, not, ◌&&◌, ◌||◌, if◌then◌else◌, List, [], ◌∷◌, ◌++◌, length, Option, None, Some, Result, Ok, Err}
+use Rattle.std.specs.Prelude.{◌==◌, ℕ, ◌+◌, ◌-◌, Bool, true, false, not, ◌&&◌, ◌||◌, if◌then◌else◌, List, [], ◌∷◌, ◌++◌, length, slice_get, Option, None, Some, Result, Ok, Err}
 use Rattle.std.specs.List.{list_any, take_while}
 use Rattle.std.specs.Str.{bytes_eq}
 use Rattle.profile_lines.specs.Lines.{Line, NotText, Blank, Head as HeadLine, Entry, Neither}
@@ -38,14 +38,18 @@ abbrev pub facts_of : Head → ℕ → List Line → List Fact
 facts_of head n [] = []
 facts_of head n (line ∷ lines) = fact_of_line head n line ++ facts_of head (n + 1) lines
 
-abbrev pub section_with : ℕ → List Line → Result Head FaultKind → List Section
-section_with n lines (Ok head) =
-    record { line = n; head = head; facts = facts_of head (n + 1) (take_while is_no_head lines) } ∷ []
-section_with n lines (Err fault) = []
+-- a head that is not listed has no keys
+abbrev pub head_or_red : Result Head FaultKind → Head
+head_or_red (Ok head) = head
+head_or_red (Err fault) = heads.Red
+
+-- a section has the lines up to the next head
+abbrev pub section_with : ℕ → List Line → Head → Section
+section_with n lines head = record { line = n; head = head; facts = facts_of head (n + 1) (take_while is_no_head lines) }
 
 -- the section that a line begins
 abbrev pub section_at : ℕ → Line → List Line → List Section
-section_at n (HeadLine words) lines = section_with n lines (head_of words)
+section_at n (HeadLine words) lines = section_with n lines (head_or_red (head_of words)) ∷ []
 section_at n NotText lines = []
 section_at n Blank lines = []
 section_at n (Entry words value) lines = []
@@ -58,12 +62,7 @@ sections_of n (line ∷ lines) = section_at n line lines ++ sections_of (n + 1) 
 
 -- the last section of some
 abbrev pub last_of : List Section → Option Section
-last_of [] = None
-last_of (s ∷ []) = Some s
-last_of (s ∷ t ∷ more) = last_of (t ∷ more)
-
-abbrev pub same_name : List ℕ → List ℕ → Bool
-same_name a b = bytes_eq a b
+last_of sections = slice_get sections (length sections - 1)
 
 -- two heads are the same; each section `[red]` is its own
 abbrev pub same_head : Head → Head → Bool
@@ -107,12 +106,13 @@ fault_at before n (HeadLine words) = fault_of_head before (head_of words)
 fault_at before n (Entry words value) = fault_in n words value (last_of before)
 fault_at before n Neither = fault_of_neither (last_of before)
 
+-- a fault with its line, or another
+abbrev pub or_later : ℕ → Option FaultKind → Option (ℕ × FaultKind) → Option (ℕ × FaultKind)
+or_later n (Some fault) later = Some (n, fault)
+or_later n None later = later
+
 -- the first fault of lines after some lines before them, with its line
 unfoldable pub first_fault : List Line → List Line → Option (ℕ × FaultKind)
 first_fault before [] = None
 first_fault before (line ∷ lines) =
-    or_first (fault_at (sections_of 1 before) (length before + 1) line) (first_fault (before ++ line ∷ []) lines)
-  where
-    or_first : Option FaultKind → Option (ℕ × FaultKind) → Option (ℕ × FaultKind)
-    or_first (Some fault) other = Some (length before + 1, fault)
-    or_first None other = other
+    or_later (length before + 1) (fault_at (sections_of 1 before) (length before + 1) line) (first_fault (before ++ line ∷ []) lines)

@@ -11,6 +11,7 @@ mod matching;
 mod name;
 mod reading;
 mod section;
+mod sections;
 mod table;
 mod value;
 
