@@ -62,7 +62,7 @@ at-end before text [] number sections at e =
 at-end before text (b ∷ bs) number sections at e = absurd (omega arith)
 
 -- a line that was not taken
-pub at-stop : {X : Type 0} (before : List Line) (text rest line after : List ℕ) (number : ℕ) (old new : List Section) (stop : Stop) → IsAt before text rest number old → lines rest ≡ line ∷ lines after → Takes {X = X} old new (number + 1) (line_of line) (Err stop) → ReadsSections (lines_of text) (Err (error_of (number + 1) stop))
+pub at-stop : (before : List Line) (text rest line after : List ℕ) (number : ℕ) (old new : List Section) (stop : Stop) → IsAt before text rest number old → lines rest ≡ line ∷ lines after → Takes {X = Unit {0}} old new (number + 1) (line_of line) (Err stop) → ReadsSections (lines_of text) (Err (error_of (number + 1) stop))
 at-stop before text rest line after number old new (stops.Fault kind) at split h =
     (at-fault before text rest line after number old kind at split h, refl)
 at-stop before text rest line after number old new stops.NoMemory at split h = tt

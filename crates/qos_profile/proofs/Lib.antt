@@ -2,3 +2,4 @@ pub mod Courses
 pub mod Growing
 pub mod Numbers
 pub mod Patterns
+pub mod Ranges

@@ -5,3 +5,6 @@ pub mod Facts
 pub mod Sections
 pub mod Steps
 pub mod Pushes
+pub mod Lookups
+pub mod Missing
+pub mod Naming

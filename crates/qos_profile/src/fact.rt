@@ -160,7 +160,7 @@ fn read_given(
 }
 
 /// The form or kind of a section: what the first of its lines that tells says.
-fn mode_of(facts: &[Fact]) -> Option<usize>
+pub(crate) fn mode_of(facts: &[Fact]) -> Option<usize>
     ensures { result ≡ mode_of facts.now }
 {
     for fact in facts {

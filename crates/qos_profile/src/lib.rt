@@ -7,7 +7,9 @@
 mod fact;
 mod fault;
 mod head;
+mod lookup;
 mod matching;
+mod missing;
 mod name;
 mod reading;
 mod section;

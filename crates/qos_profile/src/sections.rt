@@ -1,8 +1,8 @@
 //! What is done with the sections of a text.
 ghost use Rattle.std.specs.Prelude.{◌≡◌, ◌<◌, length, OnOk};
-ghost use Rattle.std.specs.List.{list_any};
 ghost use Rattle.qos_profile.specs.Sections.{same_head};
 ghost use Rattle.qos_profile.specs.Pushes.{PushesFact};
+ghost use Rattle.qos_profile.specs.Lookups.{is_there};
 
 use crate::fact::Fact;
 use crate::head::Head;
@@ -38,7 +38,7 @@ pub(crate) fn same_head(a: &Head, b: &Head) -> bool
 
 /// Whether a section of this head is there.
 pub(crate) fn is_there(sections: &[Section], head: &Head) -> bool
-    ensures { result ≡ list_any (λ s. same_head s.head head.now) sections.now }
+    ensures { result ≡ is_there sections.now head.now }
 {
     sections.iter().any(|section| same_head(&section.head, head))
 }
