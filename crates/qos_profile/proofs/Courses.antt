@@ -1,13 +1,13 @@
 -- Where a reading has come to in a text.
 use Rattle.std.proofs.Common.{◌≡◌, ℕ, ◌+◌, ◌<◌, ◌≤◌, List, [], ◌∷◌, ◌++◌, length, map, Option, None, Some, Err, refl, sym, ap, subst, ◌∙◌, arith}
 use Rattle.std.specs.Str.Lines.{lines}
-use Rattle.std.proofs.lemmas.List.{append-nil, append_assoc, length_push}
-use Rattle.profile_lines.specs.Lines.{Line, line_of}
+use Rattle.std.proofs.lemmas.List.{append-nil, append_assoc, length_push, length-append}
+use Rattle.profile_lines.specs.Lines.{Line, line_of, NotText, Blank, Head as HeadLine, Entry, Neither}
 use Rattle.qos_profile.specs.declared.fault.FaultKind.{FaultKind}
 use Rattle.qos_profile.specs.declared.reading.Stop.{Stop}
 use Rattle.qos_profile.specs.declared.reading.Stop.TheVariants as stops
 use Rattle.qos_profile.specs.declared.section.Section.{Section}
-use Rattle.qos_profile.specs.Sections.{sections_of, fault_at, first_fault, or_later}
+use Rattle.qos_profile.specs.Sections.{sections_of, section_at, fault_at, first_fault, or_later}
 use Rattle.qos_profile.specs.Steps.{lines_of, with_line, Takes, ReadsSections, error_of}
 use Rattle.qos_profile.proofs.Growing.{sections_of-snoc}
 
@@ -66,3 +66,21 @@ pub at-stop : (before : List Line) (text rest line after : List ℕ) (number : �
 at-stop before text rest line after number old new (stops.Fault kind) at split h =
     (at-fault before text rest line after number old kind at split h, refl)
 at-stop before text rest line after number old new stops.NoMemory at split h = tt
+
+-- there are no more sections than lines
+few-sections : (n : ℕ) (ls : List Line) → length (sections_of n ls) ≤ length ls
+unfolding sections_of
+few-sections n [] = omega arith
+few-sections n (x ∷ xs) =
+    omega (arith, length-append (section_at n x xs) (sections_of (n + 1) xs), few-sections (n + 1) xs, one x)
+  where
+    one : (y : Line) → length (section_at n y xs) ≤ 1
+    one (HeadLine w) = omega arith
+    one NotText = omega arith
+    one Blank = omega arith
+    one (Entry a b) = omega arith
+    one Neither = omega arith
+
+pub at-few : (before : List Line) (text rest : List ℕ) (number : ℕ) (sections : List Section) → IsAt before text rest number sections → length sections ≤ length text
+at-few before text rest number sections at =
+    omega (arith, few-sections 1 before, at.count, at.room, ap length at.sections_so_far)

@@ -1,3 +1,4 @@
+pub mod Answering
 pub mod Courses
 pub mod Growing
 pub mod Numbers

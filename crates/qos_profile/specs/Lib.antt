@@ -8,3 +8,6 @@ pub mod Pushes
 pub mod Lookups
 pub mod Missing
 pub mod Naming
+pub mod Across
+pub mod Large
+pub mod Faults

@@ -34,12 +34,18 @@ port_of_rule facts = number_at facts 5 0 0
 abbrev pub subport_of_rule : List Fact → ℕ
 subport_of_rule facts = number_at facts 6 0 0
 
--- a rule's port; its subport, where the port is there; its pipe, where the subport is there; its meter
+-- a rule's port; its subport, where the port is there; its pipe, where the subport is there
+abbrev pub number_in_rule : List Section → ℕ → ℕ → ℕ → ℕ → Bool
+number_in_rule sections port subport group n =
+    if group == 5 then is_there sections (heads.Port n)
+    else (if group == 6 then not (is_there sections (heads.Port port)) || is_subport sections port n
+    else (if group == 7 then not (is_subport sections port subport) || nat_lt n (pipes_of sections port subport)
+    else true))
+
+-- the same, and its meter
 abbrev pub names_in_rule : List Section → List Fact → Fact → Value → Bool
 names_in_rule sections facts fact (values.Number n) =
-    (not (fact.group == 5) || is_there sections (heads.Port n))
-    && (not (fact.group == 6) || (not (is_there sections (heads.Port (port_of_rule facts))) || is_subport sections (port_of_rule facts) n))
-    && (not (fact.group == 7) || (not (is_subport sections (port_of_rule facts) (subport_of_rule facts)) || nat_lt n (pipes_of sections (port_of_rule facts) (subport_of_rule facts))))
+    number_in_rule sections (port_of_rule facts) (subport_of_rule facts) fact.group n
 names_in_rule sections facts fact (values.Name name) = is_there sections (heads.Meter name)
 names_in_rule sections facts fact _ = true
 

@@ -4,19 +4,24 @@
 //! gives that out.
 #![tactic(auto)]
 
+mod across;
+mod checking;
 mod fact;
 mod fault;
 mod head;
+mod large;
 mod lookup;
 mod matching;
 mod missing;
 mod name;
+mod naming;
 mod reading;
 mod section;
 mod sections;
 mod table;
 mod value;
 
+pub use checking::{MAX_TEXT, check_profile};
 pub use fault::{FaultKind, ProfileError, ProfileFault};
 
 #[cfg(test)]

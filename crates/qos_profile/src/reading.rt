@@ -1,5 +1,5 @@
 //! A text to its sections, line by line.
-ghost use Rattle.std.specs.Prelude.{◌≡◌, ◌≤◌, map, length};
+ghost use Rattle.std.specs.Prelude.{◌≡◌, ◌≤◌, map, length, IfOk};
 ghost use Rattle.profile_lines.specs.Lines.{line_of, Head as HeadLine, Entry, Neither};
 ghost use Rattle.qos_profile.specs.Sections.{fault_in, fault_of_neither, last_of, is_red};
 ghost use Rattle.qos_profile.specs.Steps.{Takes, ReadsSections, lines_of, items_of, error_of};
@@ -125,7 +125,8 @@ fn error_of(line: u32, stop: Stop) -> ProfileError
 /// The sections of a text of at most 1,048,576 bytes, or its first fault of a line.
 pub(crate) fn read_sections(alloc: Global, text: &[u8]) -> Result<Vec<Section>, ProfileError>
     requires { length text.now ≤ 1048576 }
-    ensures { ReadsSections (lines_of text.now) (items_of result) }
+    ensures sections { ReadsSections (lines_of text.now) (items_of result) }
+    ensures few { IfOk result (λ sections. length sections.items ≤ 1048576) }
 {
     let mut sections = Vec::new(alloc);
     let mut rest = text;
