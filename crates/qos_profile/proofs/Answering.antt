@@ -1,13 +1,12 @@
 -- The answer for a text from that for its sections.
-use Rattle.std.proofs.Common.{◌≡◌, ℕ, ◌<◌, ◌≤◌, nat_lt, cond, List, [], length, Option, None, Some, Result, Ok, Err, refl, sym, ap, subst, ◌∙◌}
+use Rattle.std.proofs.Common.{◌≡◌, ℕ, ◌<◌, ◌≤◌, cond, List, [], length, Some, Result, Ok, Err, sym, ap, subst, ◌∙◌}
 use Rattle.std.proofs.lemmas.Bool.{lt-ltb, le-ltb}
-use Rattle.qos_profile.specs.declared.fault.ProfileFault.{ProfileFault}
 use Rattle.qos_profile.specs.declared.fault.ProfileError.{ProfileError}
 use Rattle.qos_profile.specs.declared.fault.ProfileError.TheVariants as errors
 use Rattle.qos_profile.specs.declared.section.Section.{Section}
 use Rattle.qos_profile.specs.Sections.{first_fault, sections_of}
 use Rattle.qos_profile.specs.Steps.{lines_of, ReadsSections}
-use Rattle.qos_profile.specs.Faults.{with_total, at_line, or_of_sections, fault_of_sections, fault_of_text, Answers}
+use Rattle.qos_profile.specs.Faults.{with_total, or_of_sections, fault_of_sections, fault_of_text, Answers}
 
 pub text-long : (text : List ℕ) → 1048576 < length text → fault_of_text text ≡ Some (with_total (length text))
 unfolding fault_of_text

@@ -1,6 +1,6 @@
 -- The sections of some lines and of one line more.
-use Rattle.std.proofs.Common.{◌≡◌, ◌==◌, ℕ, zero, suc, ◌+◌, ◌-◌, ◌<◌, Bool, true, false, cond, ◌&&◌, List, [], ◌∷◌, ◌++◌, length, take, get_or, set, find, Option, None, Some, Result, Ok, Err, refl, sym, ap, subst, ◌∙◌, arith, slice_get, slice_set, ⊎_elim}
-use Rattle.std.specs.List.{list_any, list_all, take_while, prefix_len}
+use Rattle.std.proofs.Common.{◌≡◌, ℕ, zero, suc, ◌+◌, ◌-◌, Bool, true, false, cond, ◌&&◌, List, [], ◌∷◌, ◌++◌, length, find, Option, None, Some, Result, Ok, Err, refl, sym, ap, ◌∙◌, arith, slice_get, slice_set, ⊎_elim}
+use Rattle.std.specs.List.{list_any, list_all, take_while}
 use Rattle.std.proofs.lemmas.List.{append-nil, append_assoc}
 use Rattle.std.proofs.lemmas.List.Folds.{list_all-append}
 use Rattle.std.proofs.lemmas.Bool.{and_parts, and_from, cases_Bool}
@@ -11,12 +11,11 @@ use Rattle.qos_profile.specs.declared.fault.FaultKind.TheVariants as faults
 use Rattle.qos_profile.specs.declared.head.Head.{Head}
 use Rattle.qos_profile.specs.declared.head.Head.TheVariants as heads
 use Rattle.qos_profile.specs.declared.fact.Fact.{Fact}
-use Rattle.qos_profile.specs.declared.table.Only.TheVariants as only
 use Rattle.qos_profile.specs.declared.section.Section.{Section}
 use Rattle.qos_profile.specs.Table.{Key}
 use Rattle.qos_profile.specs.Heads.{head_of, fits}
 use Rattle.qos_profile.specs.Facts.{keys_of, given, given_in, given_by, mode_of, is_listed, unless_twice, overlaps, begins_well, fact_in}
-use Rattle.qos_profile.specs.Sections.{is_no_head, or_none, fault_in, fault_of, last_of, fact_of_line, facts_of, section_with, section_at, sections_of, head_or_red, fault_at, is_red}
+use Rattle.qos_profile.specs.Sections.{is_no_head, or_none, fault_in, fault_of, last_of, fact_of_line, facts_of, section_with, section_at, sections_of, head_or_red, is_red}
 use Rattle.qos_profile.specs.Pushes.{and_fact}
 use Rattle.qos_profile.specs.Steps.{with_fact, add_to_last, with_line}
 
@@ -125,10 +124,10 @@ stops : (xs : List Line) (l : Line) → list_all is_no_head xs ≡ false → tak
 stops [] l h = absurd (cc)
 stops (x ∷ xs) l h =
     let middle : cond (is_no_head x) (x ∷ take_while is_no_head (xs ++ l ∷ [])) [] ≡ cond (is_no_head x) (x ∷ take_while is_no_head xs) [] =
-      elim (is_no_head x) as (λ t. (t && list_all is_no_head xs) ≡ false → cond t (x ∷ take_while is_no_head (xs ++ l ∷ [])) [] ≡ cond t (x ∷ take_while is_no_head xs) []) [
-        | true ↦ λ e. ap (λ ys. x ∷ ys) (stops xs l e)
-        | false ↦ λ e. refl
-      ] h in
+    elim (is_no_head x) as (λ t. (t && list_all is_no_head xs) ≡ false → cond t (x ∷ take_while is_no_head (xs ++ l ∷ [])) [] ≡ cond t (x ∷ take_while is_no_head xs) []) [
+      | true ↦ λ e. ap (λ ys. x ∷ ys) (stops xs l e)
+      | false ↦ λ e. refl
+    ] h in
     tw-step x (xs ++ l ∷ []) ∙ middle ∙ sym (tw-step x xs)
 
 -- a head at the end stops them

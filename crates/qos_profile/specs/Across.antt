@@ -1,5 +1,5 @@
 -- Ranges across keys.
-use Rattle.std.specs.Prelude.{◌==◌, ℕ, ◌*◌, ◌/◌, ◌^◌, Bool, true, false, not, ◌&&◌, ◌||◌, nat_le, if◌then◌else◌, List, [], ◌∷◌, find, Option, None, Some}
+use Rattle.std.specs.Prelude.{◌==◌, ℕ, ◌*◌, ◌^◌, Bool, true, not, ◌&&◌, nat_le, if◌then◌else◌, List, find, Option, None, Some}
 use Rattle.std.specs.Option.{option_map}
 use Rattle.profile_plan.specs.Meter.{periods_of}
 use Rattle.profile_plan.specs.declared.meter.MeterRate.{MeterRate}

@@ -1,9 +1,7 @@
 -- What a key line gives in its section, or its fault.
-use Rattle.std.specs.Prelude.{◌==◌, ℕ, Bool, true, false, not, ◌&&◌, ◌||◌, nat_le, if◌then◌else◌, codes, List, [], ◌∷◌, ◌++◌, length, find, Option, None, Some, Result, Ok, Err}
+use Rattle.std.specs.Prelude.{◌==◌, ℕ, Bool, true, not, ◌&&◌, nat_le, if◌then◌else◌, codes, List, [], ◌∷◌, length, find, Option, None, Some, Result, Ok, Err}
 use Rattle.std.specs.List.{list_any, position_or_len}
-use Rattle.profile_lines.specs.Numbers.{number_of, range_of}
-use Rattle.profile_lines.specs.Lines.{Line}
-use Rattle.profile_lines.specs.Lines as lines
+use Rattle.profile_lines.specs.Numbers.{range_of}
 use Rattle.qos_profile.specs.declared.fault.FaultKind.{FaultKind}
 use Rattle.qos_profile.specs.declared.fault.FaultKind.TheVariants.{BadLine, UnknownKey, BadNumber, OutOfRange, Twice}
 use Rattle.qos_profile.specs.declared.value.Value.{Value}

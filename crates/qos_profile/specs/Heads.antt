@@ -1,9 +1,9 @@
 -- The heads of sections, and how keys and heads are matched with words.
-use Rattle.std.specs.Prelude.{◌==◌, ℕ, Bool, true, false, ◌&&◌, ◌||◌, nat_le, if◌then◌else◌, codes, List, [], ◌∷◌, length, Option, None, Some, Result, Ok, Err}
+use Rattle.std.specs.Prelude.{◌==◌, ℕ, Bool, true, false, ◌&&◌, ◌||◌, if◌then◌else◌, codes, List, [], ◌∷◌, length, Option, None, Some, Result, Ok, Err}
 use Rattle.std.specs.Str.{bytes_eq}
 use Rattle.profile_lines.specs.Numbers.{number_of}
 use Rattle.qos_profile.specs.declared.fault.FaultKind.{FaultKind}
-use Rattle.qos_profile.specs.declared.fault.FaultKind.TheVariants.{UnknownKey, BadNumber, OutOfRange}
+use Rattle.qos_profile.specs.declared.fault.FaultKind.TheVariants.{UnknownKey, BadNumber}
 use Rattle.qos_profile.specs.declared.name.Name.{Name}
 use Rattle.qos_profile.specs.declared.head.Head.{Head}
 use Rattle.qos_profile.specs.declared.head.Head.TheVariants as heads

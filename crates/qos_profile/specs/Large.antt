@@ -1,6 +1,6 @@
 -- What is too large in the whole: the queues, the pipes, the slots or the meters. The numbers of single keys keep their own
 -- ranges, which stand here again so that no total can wrap.
-use Rattle.std.specs.Prelude.{◌==◌, ℕ, ◌+◌, ◌*◌, ◌^◌, Bool, true, false, nat_lt, min, if◌then◌else◌, List, [], ◌∷◌, slice_index, Option, None, Some, count_by}
+use Rattle.std.specs.Prelude.{ℕ, ◌+◌, ◌*◌, ◌^◌, nat_lt, min, if◌then◌else◌, List, slice_index, Option, None, Some}
 use Rattle.std.specs.List.{sum_by}
 use Rattle.qos_profile.specs.declared.value.Value.{Value}
 use Rattle.qos_profile.specs.declared.value.Value.TheVariants as values

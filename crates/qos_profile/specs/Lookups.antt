@@ -1,8 +1,7 @@
 -- The value of a key: that of the one line that gives it.
-use Rattle.std.specs.Prelude.{◌==◌, ℕ, ◌+◌, Bool, true, false, ◌&&◌, nat_le, List, [], ◌∷◌, find, is_some, Option, None, Some, map, fold, max}
+use Rattle.std.specs.Prelude.{◌==◌, ℕ, Bool, ◌&&◌, nat_le, List, [], find, Option, None, Some}
 use Rattle.std.specs.List.{list_any, list_all, range_with_len}
 use Rattle.std.specs.Option.{option_map}
-use Rattle.profile_plan.specs.declared.rule.Prefix.{Prefix}
 use Rattle.qos_profile.specs.declared.value.Value.{Value}
 use Rattle.qos_profile.specs.declared.value.Value.TheVariants as values
 use Rattle.qos_profile.specs.declared.fact.Fact.{Fact}

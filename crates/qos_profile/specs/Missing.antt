@@ -1,6 +1,6 @@
 -- What is missing: a required key, class or pipe of a section, or a section.
-use Rattle.std.specs.Prelude.{◌==◌, ℕ, ◌+◌, Bool, true, false, not, ◌&&◌, ◌||◌, if◌then◌else◌, List, [], ◌∷◌, find, Option, None, Some, min}
-use Rattle.std.specs.List.{list_any, list_all, range_with_len}
+use Rattle.std.specs.Prelude.{◌==◌, ℕ, ◌+◌, Bool, true, false, not, ◌&&◌, ◌||◌, if◌then◌else◌, List, find, Option, None, Some, min}
+use Rattle.std.specs.List.{list_all, range_with_len}
 use Rattle.std.specs.Option.{option_map}
 use Rattle.qos_profile.specs.declared.fact.Fact.{Fact}
 use Rattle.qos_profile.specs.declared.head.Head.{Head}

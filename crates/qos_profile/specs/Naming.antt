@@ -1,5 +1,5 @@
 -- Names of profiles, ports, subports, pipes and meters that are not there.
-use Rattle.std.specs.Prelude.{◌==◌, ℕ, Bool, true, false, not, ◌&&◌, ◌||◌, nat_lt, if◌then◌else◌, List, [], ◌∷◌, find, Option, None, Some}
+use Rattle.std.specs.Prelude.{◌==◌, ℕ, Bool, true, not, ◌&&◌, ◌||◌, nat_lt, if◌then◌else◌, List, [], ◌∷◌, find, Option, None, Some}
 use Rattle.std.specs.Option.{option_map}
 use Rattle.qos_profile.specs.declared.value.Value.{Value}
 use Rattle.qos_profile.specs.declared.value.Value.TheVariants as values

@@ -1,5 +1,5 @@
 -- A fact is added to the last section.
-use Rattle.std.specs.Prelude.{◌≡◌, ℕ, ◌-◌, List, [], ◌∷◌, ◌++◌, length, slice_set, slice_get, Some}
+use Rattle.std.specs.Prelude.{◌≡◌, ◌-◌, List, [], ◌∷◌, ◌++◌, length, slice_set, slice_get, Some}
 use Rattle.qos_profile.specs.declared.fact.Fact.{Fact}
 use Rattle.qos_profile.specs.declared.section.Section.{Section}
 

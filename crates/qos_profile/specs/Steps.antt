@@ -1,10 +1,9 @@
 -- What one more line does to the sections before it. The program goes line by line; that this agrees with the sections of all
 -- lines is proved.
-use Rattle.std.specs.Prelude.{◌≡◌, ℕ, ◌+◌, List, [], ◌∷◌, ◌++◌, map, Option, None, Some, Result, Ok, Err}
+use Rattle.std.specs.Prelude.{◌≡◌, ℕ, List, [], ◌∷◌, ◌++◌, map, None, Some, Result, Ok, Err}
 use Rattle.std.specs.Global.{Vec}
 use Rattle.std.specs.Str.Lines.{lines}
 use Rattle.profile_lines.specs.Lines.{Line, NotText, Blank, Head as HeadLine, Entry, Neither, line_of}
-use Rattle.qos_profile.specs.declared.fault.FaultKind.{FaultKind}
 use Rattle.qos_profile.specs.declared.fault.ProfileError.{ProfileError}
 use Rattle.qos_profile.specs.declared.fault.ProfileError.TheVariants as errors
 use Rattle.qos_profile.specs.declared.reading.Stop.{Stop}

@@ -1,5 +1,5 @@
 -- The keys of a profile, section by section in the order of the manual.
-use Rattle.std.specs.Prelude.{ℕ, ◌^◌, ◌-◌, List, [], ◌∷◌, ◌++◌, map, codes}
+use Rattle.std.specs.Prelude.{ℕ, ◌^◌, ◌-◌, List, [], ◌∷◌, map, codes}
 use Rattle.qos_profile.specs.declared.table.Place.{Place}
 use Rattle.qos_profile.specs.declared.table.Place.TheVariants.{Nothing, Range, One}
 use Rattle.qos_profile.specs.declared.table.Only.{Only}

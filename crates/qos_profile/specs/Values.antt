@@ -1,13 +1,10 @@
 -- What the words of a value mean.
-use Rattle.std.specs.Prelude.{◌==◌, ℕ, ◌+◌, ◌-◌, ◌*◌, ◌/◌, ◌^◌, Bool, true, false, not, ◌&&◌, ◌||◌, nat_le, nat_lt, if◌then◌else◌, codes, List, [], ◌∷◌, ◌++◌, length, map, replicate, slice_index, slice_index_or, is_some, unwrap_or, Option, None, Some, Result, Ok, Err}
+use Rattle.std.specs.Prelude.{◌==◌, ℕ, ◌+◌, ◌-◌, ◌*◌, ◌/◌, ◌^◌, Bool, ◌&&◌, ◌||◌, nat_le, nat_lt, if◌then◌else◌, codes, List, [], ◌∷◌, ◌++◌, length, map, replicate, slice_index_or, is_some, unwrap_or, Option, None, Some, Result, Ok, Err}
 use Rattle.std.specs.List.{list_all, position_or_len, before_first, after_first}
 use Rattle.std.specs.Str.{bytes_eq}
-use Rattle.std.specs.Option.{option_map}
-use Rattle.profile_lines.specs.Numbers.{number_of, range_of}
+use Rattle.profile_lines.specs.Numbers.{number_of}
 use Rattle.qos_base.specs.declared.packet.Colour.{Colour}
 use Rattle.qos_base.specs.declared.packet.Colour.TheVariants.{Green, Yellow, Red}
-use Rattle.code_table.specs.declared.entry.Entry.{Entry}
-use Rattle.profile_plan.specs.declared.rule.Prefix.{Prefix}
 use Rattle.qos_profile.specs.declared.fault.FaultKind.{FaultKind}
 use Rattle.qos_profile.specs.declared.fault.FaultKind.TheVariants.{BadNumber, OutOfRange}
 use Rattle.qos_profile.specs.declared.name.Name.{Name}

@@ -40,7 +40,10 @@ pub(crate) fn read_head(words: &[&[u8]]) -> Result<Head, FaultKind>
         return subport_kind_head(number_at_most(63, word_at(words, 2)));
     }
     if fits(&["subport", "", ""], words) {
-        return subport_head(read_number(word_at(words, 1)), read_number(word_at(words, 2)));
+        return subport_head(
+            read_number(word_at(words, 1)),
+            read_number(word_at(words, 2)),
+        );
     }
     if fits(&["pipe", "profile", ""], words) {
         return pipe_kind_head(number_at_most(255, word_at(words, 2)));

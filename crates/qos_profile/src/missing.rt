@@ -136,9 +136,7 @@ fn has_all_ports(sections: &[Section]) -> bool
 fn has_all_subports(sections: &[Section]) -> bool
     ensures { result ≡ list_all (λ s. has_subports sections.now s.head s.facts) sections.now }
 {
-    sections
-        .iter()
-        .all(|section| has_subports(sections, &section.head, section.facts.as_slice()))
+    sections.iter().all(|section| has_subports(sections, &section.head, section.facts.as_slice()))
 }
 
 /// The line at which something is missing: 0 for a section.

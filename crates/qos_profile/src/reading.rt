@@ -58,7 +58,13 @@ fn take_entry(
     if is_red(&section.head) {
         return Ok(());
     }
-    match read_fact(&section.head, section.facts.as_slice(), number, words, value) {
+    match read_fact(
+        &section.head,
+        section.facts.as_slice(),
+        number,
+        words,
+        value,
+    ) {
         Ok(fact) => match add_fact(sections, fact) {
             Ok(()) => Ok(()),
             Err(NoMemory) => Err(Stop::NoMemory),

@@ -40,5 +40,7 @@ pub(crate) fn same_head(a: &Head, b: &Head) -> bool
 pub(crate) fn is_there(sections: &[Section], head: &Head) -> bool
     ensures { result ≡ is_there sections.now head.now }
 {
-    sections.iter().any(|section| same_head(&section.head, head))
+    sections
+        .iter()
+        .any(|section| same_head(&section.head, head))
 }

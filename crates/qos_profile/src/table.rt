@@ -371,17 +371,15 @@ static SUBPORT: [Row; 5] = [
     },
 ];
 
-static CODE: [Row; 1] = [
-    Row {
-        words: &[""],
-        place: Place::One(63),
-        group: 0,
-        first: 0,
-        last: 0,
-        only: Only::All,
-        shape: Shape::Mark,
-    },
-];
+static CODE: [Row; 1] = [Row {
+    words: &[""],
+    place: Place::One(63),
+    group: 0,
+    first: 0,
+    last: 0,
+    only: Only::All,
+    shape: Shape::Mark,
+}];
 
 static METER: [Row; 17] = [
     Row {
@@ -687,4 +685,3 @@ pub(crate) fn rule_rows() -> &'static [Row]
 {
     &RULE
 }
-

@@ -1,4 +1,4 @@
-use Rattle.std.proofs.Common.{◌≡◌, ℕ, List, map, length, sym, arith, ◌∙◌}
+use Rattle.std.proofs.Common.{map, sym, arith, ◌∙◌}
 use Rattle.std.proofs.lemmas.List.{length-map}
 use Rattle.qos_profile.proofs.Patterns.{fits-length, fits-word}
 use Rattle.qos_profile.proofs.matching.fits.Goals as goal

@@ -1,4 +1,4 @@
-use Rattle.std.proofs.Common.{◌≡◌, ◌==◌, ℕ, ◌<◌, map, length, get_or, false, []}
+use Rattle.std.proofs.Common.{◌≡◌, ℕ, ◌<◌, map, get_or, false, []}
 use Rattle.std.specs.Str.{bytes_eq}
 use Rattle.qos_profile.proofs.matching.place_among.Given as goal
 

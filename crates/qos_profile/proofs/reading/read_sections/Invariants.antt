@@ -1,4 +1,4 @@
-use Rattle.std.proofs.Common.{◌≡◌, ◌≤◌, ◌+◌, List, [], map, length}
+use Rattle.std.proofs.Common.{List, length}
 use Rattle.profile_lines.specs.Lines.{Line}
 use Rattle.qos_profile.proofs.Courses.{IsAt}
 use Rattle.qos_profile.proofs.reading.read_sections.Given as goal

@@ -1,4 +1,4 @@
-use Rattle.std.proofs.Common.{◌≡◌, ◌-◌, ◌∙◌, sym, ap, Some, None, length, slice_get, map}
+use Rattle.std.proofs.Common.{◌-◌, ◌∙◌, sym, ap, length, slice_get, map}
 use Rattle.std.specs.Option.{option_copied}
 use Rattle.qos_profile.specs.Facts.{fact_in}
 use Rattle.qos_profile.proofs.Growing.{red-stays, red-fault, no-fault, pushed}

@@ -1,4 +1,4 @@
-use Rattle.std.proofs.Common.{◌≡◌, ◌∙◌, sym, ap, cond, Some, None}
+use Rattle.std.proofs.Common.{◌∙◌, sym, ap, cond, Some, None}
 use Rattle.std.specs.List.{list_any}
 use Rattle.qos_profile.specs.declared.fault.FaultKind.TheVariants.{Twice}
 use Rattle.qos_profile.specs.Sections.{fault_of_head, same_head}

@@ -1,8 +1,8 @@
-use Rattle.std.proofs.Common.{◌≡◌, ◌==◌, ◌&&◌, map, length, is_some, sym, ap, ◌∙◌, arith}
+use Rattle.std.proofs.Common.{◌&&◌, map, length, is_some, sym, ap, ◌∙◌, arith}
 use Rattle.std.specs.List.{list_all}
 use Rattle.std.proofs.lemmas.List.{length-map}
 use Rattle.std.proofs.lemmas.List.Folds.{list_all-map}
-use Rattle.std.proofs.lemmas.Bool.{eq-eqb, ne_eqb}
+use Rattle.std.proofs.lemmas.Bool.{eq-eqb}
 use Rattle.profile_lines.specs.Numbers.{number_of}
 use Rattle.qos_profile.proofs.value.are_numbers.Goals as goal
 

@@ -1,7 +1,7 @@
-use Rattle.std.proofs.Common.{◌≡◌, ◌<◌, get_or, length, map, [], arith, ap, ◌∙◌}
+use Rattle.std.proofs.Common.{map, arith, ap, ◌∙◌}
 use Rattle.std.proofs.lemmas.List.{length-set, length-map}
 use Rattle.qos_profile.specs.Values.{number_or_zero}
-use Rattle.qos_profile.proofs.Numbers.{within-at, filled, filled-more}
+use Rattle.qos_profile.proofs.Numbers.{filled, filled-more}
 use Rattle.qos_profile.proofs.value.sizes.Goals as goal
 
 pub loop-place-preserved : goal.loop-place-preserved
