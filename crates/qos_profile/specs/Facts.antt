@@ -63,14 +63,18 @@ is_listed (only.In m) (Some mode) = m == mode
 is_listed (only.NotIn m) (Some mode) = not (m == mode)
 is_listed only.Told (Some mode) = true
 
--- a line's fact from its slots and its value; of two faults no number goes first
+-- the fault of the slots, unless the value is no number; of two faults no number goes first
+abbrev pub worse : FaultKind → Result Value FaultKind → FaultKind
+worse BadNumber value = BadNumber
+worse fault (Err BadNumber) = BadNumber
+worse fault value = fault
+
+-- a line's fact from its slots and its value
 abbrev pub fact_with : ℕ → Key → Result (ℕ × ℕ) FaultKind → Result Value FaultKind → Result Fact FaultKind
 fact_with line key (Ok slots) (Ok value) =
     Ok (record { line = line; group = key.group; first = slots.0; last = slots.1; told = told_by key.only value; value = value })
 fact_with line key (Ok slots) (Err fault) = Err fault
-fact_with line key (Err BadNumber) value = Err BadNumber
-fact_with line key (Err fault) (Err BadNumber) = Err BadNumber
-fact_with line key (Err fault) value = Err fault
+fact_with line key (Err fault) value = Err (worse fault value)
 
 -- what a key line gives by itself
 abbrev pub given_by : ℕ → List (List ℕ) → List (List ℕ) → Key → Result Fact FaultKind

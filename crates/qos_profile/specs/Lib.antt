@@ -11,3 +11,4 @@ pub mod Naming
 pub mod Across
 pub mod Large
 pub mod Faults
+pub mod Kept

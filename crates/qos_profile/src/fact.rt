@@ -2,7 +2,7 @@
 ghost use Rattle.std.specs.Prelude.{◌≡◌, map, Err, Ok};
 ghost use Rattle.std.specs.List.{list_any};
 ghost use Rattle.qos_profile.specs.Table.{Key, row_view};
-ghost use Rattle.qos_profile.specs.Facts.{keys_of, slots_of, range_in, twice_that, told_by, is_listed, fact_with, given_by, given, mode_of, overlaps, unless_twice, begins_well, fact_in};
+ghost use Rattle.qos_profile.specs.Facts.{keys_of, slots_of, range_in, twice_that, told_by, is_listed, worse, fact_with, given_by, given, mode_of, overlaps, unless_twice, begins_well, fact_in};
 
 use crate::fault::FaultKind;
 use crate::head::{Head, number_at_most};
@@ -122,11 +122,17 @@ fn fact_with(
             }),
             Err(fault) => Err(fault),
         },
-        Err(FaultKind::BadNumber) => Err(FaultKind::BadNumber),
-        Err(fault) => match value {
-            Err(FaultKind::BadNumber) => Err(FaultKind::BadNumber),
-            _ => Err(fault),
-        },
+        Err(fault) => Err(worse(fault, value)),
+    }
+}
+
+// The fault of the slots, unless the value is no number.
+fn worse(fault: FaultKind, value: Result<Value, FaultKind>) -> FaultKind
+    ensures { result ≡ worse fault value }
+{
+    match value {
+        Err(FaultKind::BadNumber) => FaultKind::BadNumber,
+        _ => fault,
     }
 }
 

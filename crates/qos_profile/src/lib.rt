@@ -10,6 +10,7 @@ mod fact;
 mod fault;
 mod head;
 mod large;
+pub mod laws;
 mod lookup;
 mod matching;
 mod missing;
