@@ -3,7 +3,7 @@ use std::alloc::Global;
 use std::fmt::Debug;
 use std::process::Abort;
 
-const P1: &str = "[port 0]
+const FIRST: &str = "[port 0]
 line rate = 1000000000
 subports = 1
 drain ms = 0
@@ -79,7 +79,7 @@ fn found(alloc: Global, text: &[u8]) -> Found {
 // The first profile with one of its lines replaced, or left out by an empty text.
 fn replaced(rt: &impl Abort, alloc: Global, place: usize, with: &str) -> String {
     let mut text = String::new(alloc);
-    for (number, line) in P1.lines().enumerate() {
+    for (number, line) in FIRST.lines().enumerate() {
         let line = if number == place { with } else { line };
         text.push_str(line).expect(rt, "memory");
         if !line.is_empty() {
@@ -95,7 +95,7 @@ fn faulty(line: u32, kind: FaultKind) -> Found {
 
 #[test]
 fn the_first_profiles_are_profiles(rt: HostRuntime) {
-    same(&rt, &found(rt.alloc(), P1.as_bytes()), &NONE, "first");
+    same(&rt, &found(rt.alloc(), FIRST.as_bytes()), &NONE, "first");
     same(
         &rt,
         &found(rt.alloc(), SKIPPING.as_bytes()),
