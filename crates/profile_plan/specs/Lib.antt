@@ -1,0 +1,4 @@
+pub mod Limits
+pub mod Meter
+pub mod Profile
+pub mod Whole

@@ -1,0 +1,23 @@
+//! What a profile says: the pool of slots, the ports with their subports and pipes, the meters and the
+//! rules, after DPDK's `profile.cfg`. It stands on `qos_base` and `code_table`; `qos_profile` reads a
+//! profile from its text and gives all of these types out.
+//!
+//! It promises that every number of a [`Profile`] is within its limits and that every profile, port,
+//! subport, pipe and meter that a profile names is there, so that whoever holds one need not test it;
+//! and the exact whole-period numbers of a shaping at a line.
+#![tactic(auto)]
+
+mod meter;
+mod port;
+mod profile;
+mod rule;
+mod shaping;
+
+pub use meter::{MeterKind, MeterPlan, MeterRate};
+pub use port::{PoolPlan, PortPlan, Span, SubportPlan};
+pub use profile::Profile;
+pub use rule::{CodeChoice, PipeChoice, Prefix, Proto, RulePlan, VlanTest};
+pub use shaping::{CLASSES, PipeKind, Rates, Shaping, Whole};
+
+#[cfg(test)]
+mod tests;

@@ -1,0 +1,14 @@
+pub mod Table
+pub mod Values
+pub mod Heads
+pub mod Facts
+pub mod Sections
+pub mod Steps
+pub mod Pushes
+pub mod Lookups
+pub mod Missing
+pub mod Naming
+pub mod Across
+pub mod Large
+pub mod Faults
+pub mod Kept

@@ -1,0 +1,129 @@
+//! What is too large in the whole.
+ghost use Rattle.std.specs.Prelude.{◌≡◌, ◌≤◌, ◌^◌, length};
+ghost use Rattle.qos_profile.specs.Large.{pipe_room, room_with, pipes_in, room_in, queue_total, pipe_total, slot_total, meters_in, meter_total, first_above, too_large};
+
+use crate::fact::Fact;
+use crate::head::Head;
+use crate::lookup::{facts_at, number_at, value_at};
+use crate::section::Section;
+use crate::value::Value;
+
+fn pipe_room(sizes: &[u32; 13]) -> u64
+    ensures value { result ≡ pipe_room sizes.now }
+    ensures within { result ≤ 1048576 }
+{
+    let mut room: u64 = 0;
+    for size in sizes {
+        room += u64::from(*size).min(65_536);
+    }
+    room + 3 * u64::from(sizes[12]).min(65_536)
+}
+
+fn room_with(sizes: Option<Value>) -> u64
+    ensures value { result ≡ room_with sizes }
+    ensures within { result ≤ 1048576 }
+{
+    match sizes {
+        Some(Value::Sizes(sizes)) => pipe_room(&sizes),
+        _ => 0,
+    }
+}
+
+fn pipes_in(head: &Head, facts: &[Fact]) -> u64
+    ensures value { result ≡ pipes_in head.now facts.now }
+    ensures within { result ≤ 4096 }
+{
+    match head {
+        Head::Subport(_, _) => number_at(facts, 1, 0, 0).min(4_096),
+        _ => 0,
+    }
+}
+
+fn room_in(section: &Section) -> u64
+    ensures value { result ≡ room_in section.now }
+    ensures within { result ≤ 2 ^ 32 }
+{
+    let facts = section.facts.as_slice();
+    pipes_in(&section.head, facts) * room_with(value_at(facts, 2, 0))
+}
+
+fn queue_total(sections: &[Section]) -> u64
+    requires { length sections.now ≤ 1048576 }
+    ensures { result ≡ queue_total sections.now }
+{
+    let mut total: u64 = 0;
+    for section in sections {
+        total += room_in(section);
+    }
+    total
+}
+
+fn pipe_total(sections: &[Section]) -> u64
+    requires { length sections.now ≤ 1048576 }
+    ensures { result ≡ pipe_total sections.now }
+{
+    let mut total: u64 = 0;
+    for section in sections {
+        total += pipes_in(&section.head, section.facts.as_slice());
+    }
+    total
+}
+
+fn slot_total(facts: &[Fact]) -> u64
+    ensures { result ≡ slot_total facts.now }
+{
+    let slots = number_at(facts, 0, 0, 65_536).min(1_048_576);
+    let bytes = number_at(facts, 1, 0, 2_048).min(262_144);
+    slots * bytes
+}
+
+fn meters_in(head: &Head) -> u64
+    ensures value { result ≡ meters_in head.now }
+    ensures within { result ≤ 1 }
+{
+    match head {
+        Head::Meter(_) => 1,
+        _ => 0,
+    }
+}
+
+fn meter_total(sections: &[Section]) -> u64
+    requires { length sections.now ≤ 1048576 }
+    ensures { result ≡ meter_total sections.now }
+{
+    let mut total: u64 = 0;
+    for section in sections {
+        total += meters_in(&section.head);
+    }
+    total
+}
+
+fn first_above(queues: u64, pipes: u64, slots: u64, meters: u64) -> Option<u64>
+    ensures { result ≡ first_above queues pipes slots meters }
+{
+    if queues > 4_194_304 {
+        Some(queues)
+    } else if pipes > 65_536 {
+        Some(pipes)
+    } else if slots > 1 << 31 {
+        Some(slots)
+    } else if meters > 64 {
+        Some(meters)
+    } else {
+        None
+    }
+}
+
+/// The first total that is too large.
+#[tactic(auto, unfolding(crate::specs::Large::too_large))]
+pub(crate) fn too_large(sections: &[Section]) -> Option<u64>
+    requires { length sections.now ≤ 1048576 }
+    ensures { result ≡ too_large sections.now }
+{
+    first_above(
+        queue_total(sections),
+        pipe_total(sections),
+        slot_total(facts_at(sections, &Head::Pool)),
+        meter_total(sections),
+    )
+}

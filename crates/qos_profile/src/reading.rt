@@ -1,0 +1,150 @@
+//! A text to its sections, line by line.
+ghost use Rattle.std.specs.Prelude.{◌≡◌, ◌≤◌, map, length, IfOk};
+ghost use Rattle.profile_lines.specs.Lines.{line_of, Head as HeadLine, Entry, Neither};
+ghost use Rattle.qos_profile.specs.Sections.{fault_in, fault_of_neither, last_of, is_red};
+ghost use Rattle.qos_profile.specs.Steps.{Takes, ReadsSections, lines_of, items_of, error_of};
+
+use crate::fact::read_fact;
+use crate::fault::{FaultKind, ProfileError, ProfileFault};
+use crate::head::{Head, read_head};
+use crate::section::{Facts, Section};
+use crate::sections::{add_fact, is_there};
+use profile_lines::{Line, read_line, split_line};
+use qos_base::NoMemory;
+use std::alloc::Global;
+
+/// Why a line was not taken.
+#[derive(Clone, Copy, Debug)]
+pub(crate) enum Stop {
+    Fault(FaultKind),
+    NoMemory,
+}
+
+fn take_head(
+    alloc: Global,
+    sections: &mut Vec<Section>,
+    number: u32,
+    words: &[&[u8]],
+) -> Result<(), Stop>
+    ensures { Takes sections.old.items sections.new.items number (HeadLine (map (λ w. w.now) words.now)) result }
+{
+    match read_head(words) {
+        Ok(head) => {
+            if is_there(sections.as_slice(), &head) {
+                return Err(Stop::Fault(FaultKind::Twice));
+            }
+            let section = Section {
+                line: number,
+                head,
+                facts: Facts::new(alloc),
+            };
+            sections.push(section).map_err(|_| Stop::NoMemory)
+        }
+        Err(fault) => Err(Stop::Fault(fault)),
+    }
+}
+
+fn take_entry(
+    sections: &mut Vec<Section>,
+    number: u32,
+    words: &[&[u8]],
+    value: &[&[u8]],
+) -> Result<(), Stop>
+    ensures { Takes sections.old.items sections.new.items number (Entry (map (λ w. w.now) words.now) (map (λ w. w.now) value.now)) result }
+{
+    let Some(section) = sections.last() else {
+        return Err(Stop::Fault(FaultKind::BadLine));
+    };
+    if is_red(&section.head) {
+        return Ok(());
+    }
+    match read_fact(
+        &section.head,
+        section.facts.as_slice(),
+        number,
+        words,
+        value,
+    ) {
+        Ok(fact) => match add_fact(sections, fact) {
+            Ok(()) => Ok(()),
+            Err(NoMemory) => Err(Stop::NoMemory),
+        },
+        Err(fault) => Err(Stop::Fault(fault)),
+    }
+}
+
+fn is_red(head: &Head) -> bool
+    ensures { result ≡ is_red head.now }
+{
+    matches!(head, Head::Red)
+}
+
+fn take_neither(sections: &[Section]) -> Option<FaultKind>
+    ensures { result ≡ fault_of_neither (last_of sections.now) }
+{
+    let Some(section) = sections.last() else {
+        return Some(FaultKind::BadLine);
+    };
+    if is_red(&section.head) {
+        None
+    } else {
+        Some(FaultKind::BadLine)
+    }
+}
+
+fn take_line(
+    alloc: Global,
+    sections: &mut Vec<Section>,
+    number: u32,
+    line: &[u8],
+) -> Result<(), Stop>
+    ensures { Takes sections.old.items sections.new.items number (line_of line.now) result }
+{
+    match read_line(alloc, line) {
+        Err(NoMemory) => Err(Stop::NoMemory),
+        Ok(Line::NotText) => Err(Stop::Fault(FaultKind::NotText)),
+        Ok(Line::Blank) => Ok(()),
+        Ok(Line::Head(words)) => take_head(alloc, sections, number, words.as_slice()),
+        Ok(Line::Entry(words, value)) => {
+            take_entry(sections, number, words.as_slice(), value.as_slice())
+        }
+        Ok(Line::Neither) => match take_neither(sections.as_slice()) {
+            Some(fault) => Err(Stop::Fault(fault)),
+            None => Ok(()),
+        },
+    }
+}
+
+fn error_of(line: u32, stop: Stop) -> ProfileError
+    ensures { result ≡ error_of line stop }
+{
+    match stop {
+        Stop::Fault(kind) => ProfileError::Fault(ProfileFault {
+            line,
+            kind,
+            total: 0,
+        }),
+        Stop::NoMemory => ProfileError::NoMemory,
+    }
+}
+
+/// The sections of a text of at most 1,048,576 bytes, or its first fault of a line.
+pub(crate) fn read_sections(alloc: Global, text: &[u8]) -> Result<Vec<Section>, ProfileError>
+    requires { length text.now ≤ 1048576 }
+    ensures sections { ReadsSections (lines_of text.now) (items_of result) }
+    ensures few { IfOk result (λ sections. length sections.items ≤ 1048576) }
+{
+    let mut sections = Vec::new(alloc);
+    let mut rest = text;
+    let mut number: u32 = 0;
+    while !rest.is_empty() {
+        let (line, after) = split_line(rest);
+        number += 1;
+        match take_line(alloc, &mut sections, number, line) {
+            Ok(()) => {}
+            Err(stop) => return Err(error_of(number, stop)),
+        }
+        rest = after;
+    }
+    Ok(sections)
+}
