@@ -29,10 +29,12 @@ fn stop_of(len: usize) -> Stop {
 fn check_cut<R: Sync + AllocGlobal + Abort>(rt: &R, len: usize, sent: &[Rec; 3]) {
     let stopped = stop_of(len);
     let whole = (len.saturating_sub(24) / 76).min(3);
+    let frames = [frame(0); 3];
+    let input = Input::Capture(PLAIN, &frames, 252usize.saturating_sub(len));
     let row = Row {
         note: "a cut capture",
         words: "run i o 1000000000 2000000 1 1",
-        input: Input::Capture(PLAIN, &[frame(0); 3], 252usize.saturating_sub(len)),
+        input,
         status: if stopped == Stop::End { 0 } else { 6 },
         stopped,
         port: PORTS[whole],

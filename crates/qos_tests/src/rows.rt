@@ -389,9 +389,10 @@ fn inputs_that_stop(rt: HostRuntime) {
 fn each_form_gives_the_same_output(rt: HostRuntime) {
     let records = [frame(0), frame(5000), frame(7000)];
     for form in FORMS {
+        let input = Input::Capture(form, &records, 0);
         let row = Row {
             note: "the four magic numbers",
-            input: Input::Capture(form, &records, 0),
+            input,
             port: [3, 3, 0, 0, 0, 3, 7084],
             output: &records,
             ..NONE
