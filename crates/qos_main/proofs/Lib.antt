@@ -16,3 +16,4 @@ pub mod Opens
 pub mod Takes
 pub mod Closings
 pub mod Ends
+pub mod Tops

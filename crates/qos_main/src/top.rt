@@ -1,5 +1,5 @@
 //! The call that the program makes: a command, from its words to its report.
-ghost use Rattle.std.specs.Prelude.{◌≡◌, ◌≤◌, ◌⊎◌, ℕ, List, [], ◌∷◌, Some, None, true, IfOk, OnErr};
+ghost use Rattle.std.specs.Prelude.{◌≡◌, ◌≤◌, ◌⊎◌, ℕ, List, [], ◌∷◌, Some, None, true, false, IfOk, OnErr};
 ghost use Rattle.std.specs.Option.{option_map};
 ghost use Rattle.qos_io.specs.Bytes.{bytes_in};
 ghost use Rattle.qos_io.specs.Fault.{HasRisen};
@@ -139,12 +139,12 @@ fn run<H: Shelf>(
     ensures files { ChangesOnly H.Shelf (Some command.now.output) shelf.old shelf.new }
     ensures never_falls { H.faults shelf.old ≤ H.faults shelf.new }
 {
+    reads_one_way();
     let mut input = open_input(shelf, command.input)?;
     let Prepared { port, out, lists } = prepare(alloc, command.plan())?;
     let slots = Slots::new(alloc);
     let (end, fault) = run_output(shelf, command.output, &mut input, port, out, slots)?;
     every_arrival_ends();
-    reads_one_way();
     let status = Status::of_run(input.stopped, fault);
     let numbers = input_end(alloc, &input, end.counts);
     Ok((put_together(status, lists, numbers, end, fault), status))
