@@ -77,7 +77,8 @@ impl<'a, R: Files<File = File> + AllocGlobal> FileShelf<'a, R> {
         if self.opened.contains(&Node::of(&metadata)) {
             return Err(io::Error::from(ErrorKind::ResourceBusy));
         }
-        if metadata.is_file() {
+        // A new file needs no truncation, after which ext4 would write it to the disk at its closing.
+        if metadata.is_file() && metadata.len() != 0 {
             file.set_len(0)?;
         }
         Ok(file)

@@ -1,7 +1,7 @@
 //! A capture that is cut at each byte.
-use crate::build::{Input, PLAIN, Rec, frame};
-use crate::rows::{Row, check};
-use crate::seen::PortNumbers;
+use crate::build::{PLAIN, Rec, capture, frame};
+use crate::rows::{Outcome, check_on, shelf_over};
+use crate::seen::{PortNumbers, wanted};
 use qos_pcap::{PcapFault, Stop};
 use std::process::Abort;
 
@@ -27,19 +27,18 @@ fn stop_of(len: usize) -> Stop {
 }
 
 fn check_cut<R: Sync + AllocGlobal + Abort>(rt: &R, len: usize, sent: &[Rec; 3]) {
+    let mut bytes = capture(rt, PLAIN, &[frame(0); 3]);
+    bytes.truncate(len);
     let stopped = stop_of(len);
+    let status = if stopped == Stop::End { 0 } else { 6 };
     let whole = (len.saturating_sub(24) / 76).min(3);
-    let row = Row {
+    let expected = Outcome {
         note: "a cut capture",
-        words: "run i o 1000000000 2000000 1 1",
-        input: Input::Capture(PLAIN, &[frame(0); 3], 252usize.saturating_sub(len)),
-        status: if stopped == Stop::End { 0 } else { 6 },
-        stopped,
-        port: PORTS[whole],
-        passed: [0, 0],
+        seen: wanted(status, PORTS[whole], [0, 0], stopped),
         output: &sent[..whole],
     };
-    check(rt, &row);
+    let words = "run i o 1000000000 2000000 1 1";
+    check_on(rt, words, &mut shelf_over(rt, bytes), &expected);
 }
 
 #[test]

@@ -1,22 +1,22 @@
 //! Commands over inputs in memory, as rows.
-use crate::build::{FORMS, Form, HEADER, Input, PLAIN, Rec, bytes_of, frame, output};
+use crate::build::{FORMS, Form, HEADER, Input, PLAIN, Rec, bytes_of, capture, frame, output};
 use crate::seen::{PortNumbers, Seen, nothing, run, same, wanted};
 use qos_io::{MemShelf, MemSink, WholeShelf, WholeSink};
 use qos_pcap::{PcapFault, Stop};
 use std::process::Abort;
 
-/// A command over an input, and what it comes to.
+// A command over an input, and what it comes to.
 #[derive(Clone, Copy)]
-pub struct Row<'a> {
-    pub note: &'a str,
-    pub words: &'a str,
-    pub input: Input<'a>,
-    pub status: u8,
-    pub stopped: Stop,
-    pub port: PortNumbers,
-    /// How many records are oversize, and how many too long.
-    pub passed: [u64; 2],
-    pub output: &'a [Rec],
+struct Row<'a> {
+    note: &'a str,
+    words: &'a str,
+    input: Input<'a>,
+    status: u8,
+    stopped: Stop,
+    port: PortNumbers,
+    // How many records are oversize, and how many too long.
+    passed: [u64; 2],
+    output: &'a [Rec],
 }
 
 const AMPLE: &str = "run i o 1000000000 2000000 1 1";
@@ -335,15 +335,18 @@ const STOPPED: [Row<'static>; 9] = [
     },
 ];
 
-/// A shelf whose file `i` is this input.
+// A shelf whose file `i` is this input.
 fn shelf_with<R: AllocGlobal + Abort>(rt: &R, input: Input<'_>) -> MemShelf {
-    let mut shelf = MemShelf::new(rt.alloc());
     if let Input::Absent = input {
-        return shelf;
+        return MemShelf::new(rt.alloc());
     }
-    shelf
-        .put_file("i", bytes_of(rt, input))
-        .expect(rt, "memory");
+    shelf_over(rt, bytes_of(rt, input))
+}
+
+/// A shelf whose file `i` has these bytes.
+pub fn shelf_over<R: AllocGlobal + Abort>(rt: &R, bytes: Vec<u8>) -> MemShelf {
+    let mut shelf = MemShelf::new(rt.alloc());
+    shelf.put_file("i", bytes).expect(rt, "memory");
     shelf
 }
 
@@ -354,20 +357,46 @@ pub fn report_of(status: u8) -> [u8; 9] {
     line
 }
 
-pub fn check<R: Sync + AllocGlobal + Abort>(rt: &R, row: &Row<'_>) {
-    let mut shelf = shelf_with(rt, row.input);
+/// What a command ends with over the files of a shelf, what it says and what it writes.
+#[derive(Clone, Copy)]
+pub struct Outcome<'a> {
+    pub note: &'a str,
+    pub seen: Seen,
+    pub output: &'a [Rec],
+}
+
+/// Runs a command over a shelf whose input is `i` and whose output is `o`.
+pub fn check_on<R: Sync + AllocGlobal + Abort>(
+    rt: &R,
+    words: &str,
+    shelf: &mut MemShelf,
+    outcome: &Outcome<'_>,
+) {
     let mut said = WholeSink::new(rt.alloc());
-    let found = run(rt, row.words, &mut shelf, &mut said);
-    let expected = wanted(row.status, row.port, row.passed, row.stopped);
-    same(rt, &found, &expected, row.note);
     same(
         rt,
-        &said.bytes(),
-        &report_of(row.status).as_slice(),
-        row.note,
+        &run(rt, words, shelf, &mut said),
+        &outcome.seen,
+        outcome.note,
     );
-    let written = output(rt, row.output);
-    same(rt, &shelf.file("o"), &Some(written.as_slice()), row.note);
+    let report = report_of(outcome.seen.status);
+    same(rt, &said.bytes(), &report.as_slice(), outcome.note);
+    let written = output(rt, outcome.output);
+    same(
+        rt,
+        &shelf.file("o"),
+        &Some(written.as_slice()),
+        outcome.note,
+    );
+}
+
+fn check<R: Sync + AllocGlobal + Abort>(rt: &R, row: &Row<'_>) {
+    let expected = Outcome {
+        note: row.note,
+        seen: wanted(row.status, row.port, row.passed, row.stopped),
+        output: row.output,
+    };
+    check_on(rt, row.words, &mut shelf_with(rt, row.input), &expected);
 }
 
 #[test]
@@ -388,15 +417,14 @@ fn inputs_that_stop(rt: HostRuntime) {
 #[test]
 fn each_form_gives_the_same_output(rt: HostRuntime) {
     let records = [frame(0), frame(5000), frame(7000)];
+    let expected = Outcome {
+        note: "the four magic numbers",
+        seen: wanted(0, [3, 3, 0, 0, 0, 3, 7084], [0, 0], Stop::End),
+        output: &records,
+    };
     for form in FORMS {
-        let row = Row {
-            note: "the four magic numbers",
-            input: Input::Capture(form, &records, 0),
-            port: [3, 3, 0, 0, 0, 3, 7084],
-            output: &records,
-            ..NONE
-        };
-        check(&rt, &row);
+        let mut shelf = shelf_over(&rt, capture(&rt, form, &records));
+        check_on(&rt, AMPLE, &mut shelf, &expected);
     }
 }
 
