@@ -1,5 +1,5 @@
 -- What becomes of each record of an input, and the packets of those that are admitted.
-use Rattle.std.specs.Prelude.{ℕ, ◌+◌, ◌==◌, Bool, false, nat_lt, if◌then◌else◌, List, [], ◌∷◌, ◌++◌, map, count_by, Option, None, Some, slice_index_or}
+use Rattle.std.specs.Prelude.{ℕ, ◌+◌, ◌==◌, Bool, false, nat_lt, if◌then◌else◌, List, [], ◌∷◌, ◌++◌, map, count_by, slice_index_or}
 use Rattle.qos_base.specs.declared.packet.Pkt.{Pkt}
 use Rattle.qos_base.specs.declared.packet.Colour.TheVariants.{Green}
 use Rattle.qos_base.specs.declared.reason.Reason.TheVariants.{TooLong, Oversize}
@@ -57,8 +57,3 @@ admitted records = admitted_from 0 records
 -- the captured bytes of the record at a place
 abbrev pub body_at : List Record → ℕ → List ℕ
 body_at records index = slice_index_or (map (λ r. r.body) records) index []
-
--- the stamp of the first record
-abbrev pub first_stamp : List Record → Option ℕ
-first_stamp [] = None
-first_stamp (r ∷ rs) = Some r.stamp
