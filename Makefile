@@ -17,18 +17,20 @@ CRATES := $(shell sed -n 's/^\([a-z0-9_]\{1,\}\).*:.*/\1/p' crates.txt)
 $(foreach crate,$(CRATES),$(eval BELOW_$(crate) := $(shell sed -n 's/^$(crate)\>[^:]*://p' crates.txt)))
 LIBRARIES := $(filter-out qos,$(sort $(call crates_below,qos)))
 
-.PHONY: all demo bench install $(LIBRARIES)
+.PHONY: all libraries demo bench install $(LIBRARIES)
 
 all:
 	@echo "Proving and building the program (logs: crates/NAME/out/make.log). The first time takes a while."
-	@$(MAKE) --no-print-directory --jobs=$$(nproc) $(LIBRARIES)
-	@mkdir -p demo
+	@$(MAKE) --no-print-directory --jobs=$$(nproc) libraries
+	@mkdir -p demo crates/qos/out
 	@rm -f $(OUT)
 	@cd crates/qos && rt run -- run "$(CURDIR)/$(IN)" "$(CURDIR)/$(OUT)" $(WORDS) 2>out/make.log \
 	  || { tail -n 20 out/make.log; exit 1; }
 	@echo "The program is $(PROGRAM); the shaped capture is $(OUT)."
 
 $(foreach crate,$(LIBRARIES),$(eval $(crate): $(filter $(CRATES),$(BELOW_$(crate)))))
+libraries: $(LIBRARIES)
+
 $(LIBRARIES):
 	@mkdir -p crates/$@/out
 	@cd crates/$@ && rt lib >out/make.log 2>&1 || { tail -n 20 out/make.log; exit 1; }
