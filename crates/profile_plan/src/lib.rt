@@ -1,6 +1,5 @@
 //! What a profile says: the pool of slots, the ports with their subports and pipes, the meters and the
-//! rules, after DPDK's `profile.cfg`. It stands on `qos_base` and `code_table`; `qos_profile` reads a
-//! profile from its text and gives all of these types out.
+//! rules, after DPDK's `profile.cfg`. It stands on `qos_base` and `code_table`.
 //!
 //! It promises that every number of a [`Profile`] is within its limits and that every profile, port,
 //! subport, pipe and meter that a profile names is there, so that whoever holds one need not test it;

@@ -1,7 +1,6 @@
-//! The profile text: reading a profile, with the first fault of a text that is none.
+//! The profile text: whether a text is a profile, with the first fault of one that is none.
 //!
-//! It stands on `profile_lines` for the lines of a text and on `profile_plan` for what a profile says, and
-//! gives that out.
+//! It stands on `profile_lines` for the lines of a text and on `profile_plan` for what a profile says.
 #![tactic(auto)]
 
 mod across;
