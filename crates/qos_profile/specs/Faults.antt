@@ -1,4 +1,4 @@
--- The first fault of a text, in the order of the manual: the text's length, the lines, what is missing, what is named and not
+-- The first fault of a text, in this order: the text's length, the lines, what is missing, what is named and not
 -- there, ranges across keys, and what is too large.
 use Rattle.std.specs.Prelude.{◌≡◌, ℕ, nat_lt, if◌then◌else◌, List, [], length, Option, None, Some, Result, Ok, Err}
 use Rattle.qos_profile.specs.declared.fault.FaultKind.{FaultKind}

@@ -32,7 +32,7 @@ abbrev pub meter_head : Option Name → Result Head FaultKind
 meter_head (Some name) = Ok (heads.Meter name)
 meter_head None = Err BadNumber
 
--- the head that the words between brackets write, in the order of the manual
+-- the head that the words between brackets write
 unfoldable pub head_of : List (List ℕ) → Result Head FaultKind
 head_of words =
     if fits (codes "pool" ∷ []) words then Ok heads.Pool

@@ -1,4 +1,4 @@
--- The keys of a profile, section by section in the order of the manual.
+-- The keys of a profile, section by section.
 use Rattle.std.specs.Prelude.{ℕ, ◌^◌, ◌-◌, List, [], ◌∷◌, map, codes}
 use Rattle.qos_profile.specs.declared.table.Place.{Place}
 use Rattle.qos_profile.specs.declared.table.Place.TheVariants.{Nothing, Range, One}

@@ -71,7 +71,7 @@ fn fault_of_sections(sections: &[Section]) -> Option<ProfileFault>
 
 /// Whether a text is a profile: its first fault, if it has any.
 ///
-/// The order is that of the manual: a text above [`MAX_TEXT`] bytes; then the first line at fault, with the
+/// In this order: a text above [`MAX_TEXT`] bytes; then the first line at fault, with the
 /// fault of the least number there; then what is missing, a name that is not there and a range across keys,
 /// each at the least line; then what is too large in the whole.
 pub fn check_profile(alloc: Global, text: &[u8]) -> Result<(), ProfileError>

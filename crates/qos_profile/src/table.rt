@@ -1,4 +1,4 @@
-//! The keys of each section, in the order of the manual.
+//! The keys of each section.
 ghost use Rattle.std.specs.Prelude.{◌≡◌, map};
 ghost use Rattle.qos_profile.specs.Table.{row_view, pool_keys, port_keys, subport_kind_keys, pipe_kind_keys, subport_keys, code_keys, meter_keys, rule_keys};
 
