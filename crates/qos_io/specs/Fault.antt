@@ -21,7 +21,7 @@ HasRisen-early : (a b c : ℕ) → b ≤ c → HasRisen a b → HasRisen a c
 HasRisen-early a b c on (inl rise) = inl (lt_of_lt_of_le rise on)
 HasRisen-early a b c on (inr last) = inr last
 
-HasRisen-late : (a b c : ℕ) → a ≤ b → b ≤ c → HasRisen b c → HasRisen a c
+pub HasRisen-late : (a b c : ℕ) → a ≤ b → b ≤ c → HasRisen b c → HasRisen a c
 HasRisen-late a b c first on (inl rise) = inl (lt_of_le_of_lt first rise)
 HasRisen-late a b c first on (inr last) = elim (eq-or-lt_of_le first) [
   | inl same ↦ inr (same ∙ last)

@@ -26,7 +26,7 @@ iff_refl = ((λ a. a), (λ a. a))
 iff_then : {A B C : Type 0} → B ↔ A → C ↔ B → C ↔ A
 iff_then first second = ((λ c. first.0 (second.0 c)), (λ a. second.1 (first.1 a)))
 
-none_is_no_name : (n : List ℕ) → None ≢ Some n
+pub none_is_no_name : (n : List ℕ) → None ≢ Some n
 none_is_no_name n = λ e. subst (λ (o : Option (List ℕ)). MatchOption o (Unit {0}) (λ _. ⊥)) e tt
 
 module _ {H : Type 0} {Tells : H → Type 0} {file : H → List ℕ → Option (List ℕ)} {IsSureToRead IsSureToWrite : H → List ℕ → Type 0} where

@@ -1,3 +1,4 @@
+pub mod Names
 pub mod Choices
 pub mod Schedules
 pub mod Lives
@@ -8,12 +9,10 @@ pub mod Outputs
 pub mod Senders
 pub mod Advances
 pub mod Egresses
-pub mod Courses
 pub mod Arrivals
-pub mod Frames
 pub mod Records
-pub mod Opens
 pub mod Takes
 pub mod Closings
 pub mod Ends
 pub mod Tops
+pub mod Guesses

@@ -1,38 +1,28 @@
 -- One entry more in a journal.
-use Rattle.std.proofs.Common.{◌≡◌, ◌≤◌, ℕ, length, ◌+◌, List, [], ◌∷◌, ◌++◌, ltb, refl, ap, ◌∙◌, arith}
-use Rattle.std.proofs.lemmas.Bool.{cond_both}
-use Rattle.port_sched.specs.declared.plain.TheConstants.{QUEUE_SIZE}
-use Rattle.port_sched.specs.PortState.{after_arrival}
-use Rattle.std.proofs.lemmas.List.Sums.{fold-append}
-use Rattle.qos_base.specs.declared.packet.Pkt.{Pkt}
-use Rattle.port_sched.specs.declared.shaper.Shaper.{Shaper}
-use Rattle.qos_main.specs.declared.entry.Entry.{Entry}
-use Rattle.qos_main.specs.declared.entry.Entry.TheVariants.{Arrive, Dequeue}
-use Rattle.qos_main.specs.Schedule.{Schedule, at_start, after_entry, schedule_of, arrivals_of, dequeues_in}
+use Rattle.qos_main.proofs.Names.{◌≡◌, ◌≤◌, ℕ, length, ◌+◌, List, [], ◌∷◌, ◌++◌, ltb, refl, ap, ◌∙◌, arith, cond_both, append-nil}
+use Rattle.qos_main.proofs.Names.{QUEUE_SIZE, after_arrival, fold-append, Pkt, Shaper, Entry, Arrive, Dequeue, Schedule, at_start}
+use Rattle.qos_main.proofs.Names.{after_entry, schedule_of, arrivals_of, dequeues_in}
 
-pub schedule_of-push : (shaper : Shaper) (journal : List Entry) (entry : Entry) → schedule_of shaper (journal ++ entry ∷ []) ≡ after_entry (schedule_of shaper journal) entry
+pub schedule_of-push : (shaper : Shaper) (journal : List Entry) (entry : Entry)
+    → schedule_of shaper (journal ++ entry ∷ []) ≡ after_entry (schedule_of shaper journal) entry
 unfolding schedule_of
 schedule_of-push shaper journal entry = fold-append after_entry (at_start shaper) journal (entry ∷ [])
 
+arrivals_of-append : (js ks : List Entry) → arrivals_of (js ++ ks) ≡ arrivals_of js ++ arrivals_of ks
+arrivals_of-append [] ks = refl
+arrivals_of-append (Arrive p ∷ js) ks = ap (λ ps. p ∷ ps) (arrivals_of-append js ks)
+arrivals_of-append (Dequeue now room ∷ js) ks = arrivals_of-append js ks
+
 pub arrivals_of-dequeue : (journal : List Entry) (now room : ℕ) → arrivals_of (journal ++ Dequeue now room ∷ []) ≡ arrivals_of journal
-arrivals_of-dequeue [] now room = refl
-arrivals_of-dequeue (Arrive p ∷ journal) now room = ap (λ ps. p ∷ ps) (arrivals_of-dequeue journal now room)
-arrivals_of-dequeue (Dequeue n r ∷ journal) now room = arrivals_of-dequeue journal now room
+arrivals_of-dequeue journal now room = arrivals_of-append journal (Dequeue now room ∷ []) ∙ append-nil (arrivals_of journal)
 
 pub arrivals_of-arrive : (journal : List Entry) (p : Pkt) → arrivals_of (journal ++ Arrive p ∷ []) ≡ arrivals_of journal ++ p ∷ []
-arrivals_of-arrive [] p = refl
-arrivals_of-arrive (Arrive q ∷ journal) p = ap (λ ps. q ∷ ps) (arrivals_of-arrive journal p)
-arrivals_of-arrive (Dequeue n r ∷ journal) p = arrivals_of-arrive journal p
+arrivals_of-arrive journal p = arrivals_of-append journal (Arrive p ∷ [])
 
-pub dequeues_in-dequeue : (journal : List Entry) (now room : ℕ) → dequeues_in (journal ++ Dequeue now room ∷ []) ≡ dequeues_in journal + 1
-dequeues_in-dequeue [] now room = refl
-dequeues_in-dequeue (Arrive p ∷ journal) now room = dequeues_in-dequeue journal now room
-dequeues_in-dequeue (Dequeue n r ∷ journal) now room = ap (λ n. n + 1) (dequeues_in-dequeue journal now room)
-
-pub dequeues_in-arrive : (journal : List Entry) (p : Pkt) → dequeues_in (journal ++ Arrive p ∷ []) ≡ dequeues_in journal
-dequeues_in-arrive [] p = refl
-dequeues_in-arrive (Arrive q ∷ journal) p = dequeues_in-arrive journal p
-dequeues_in-arrive (Dequeue n r ∷ journal) p = ap (λ n. n + 1) (dequeues_in-arrive journal p)
+pub dequeues_in-append : (js ks : List Entry) → dequeues_in (js ++ ks) ≡ dequeues_in js + dequeues_in ks
+dequeues_in-append [] ks = omega arith
+dequeues_in-append (Arrive p ∷ js) ks = dequeues_in-append js ks
+dequeues_in-append (Dequeue now room ∷ js) ks = omega (arith, dequeues_in-append js ks)
 
 pub dequeues_in-le : (journal : List Entry) → dequeues_in journal ≤ length journal
 dequeues_in-le [] = omega arith
@@ -40,9 +30,8 @@ dequeues_in-le (Arrive p ∷ journal) = omega (arith, dequeues_in-le journal)
 dequeues_in-le (Dequeue now room ∷ journal) = omega (arith, dequeues_in-le journal)
 
 -- an arrival sends nothing
-pub sends-arrive : (shaper : Shaper) (journal : List Entry) (p : Pkt) → (schedule_of shaper (journal ++ Arrive p ∷ [])).sends ≡ (schedule_of shaper journal).sends
-sends-arrive shaper journal p =
-    let s = schedule_of shaper journal in
-    let Same : Schedule → Type 0 = λ t. t.sends ≡ s.sends in
-    ap (λ (t : Schedule). t.sends) (schedule_of-push shaper journal (Arrive p))
-    ∙ cond_both (ltb (length s.port.queue) QUEUE_SIZE) (record s { port = after_arrival p s.port }) (record s { drops = s.drops ++ p ∷ [] }) Same (λ _. refl) (λ _. refl)
+pub sends-after-arrive : (s : Schedule) (p : Pkt) → (after_entry s (Arrive p)).sends ≡ s.sends
+sends-after-arrive s p =
+    cond_both (ltb (length s.port.queue) QUEUE_SIZE) (record s { port = after_arrival p s.port })
+    (record s { drops = s.drops ++ p ∷ [] }) (λ (t : Schedule). t.sends ≡ s.sends)
+    (λ _. refl) (λ _. refl)

@@ -17,4 +17,5 @@ pub mod Taken
 pub mod Status
 pub mod Report
 pub mod Outcome
+pub mod Writing
 pub mod Ended

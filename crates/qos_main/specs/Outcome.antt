@@ -11,7 +11,7 @@ use Rattle.qos_base.specs.Time.{origin_of}
 use Rattle.port_sched.specs.Laws.{parcels}
 use Rattle.qos_io.specs.declared.shelf.Shelf.{Ghosts}
 use Rattle.qos_io.specs.declared.sink.Sink.{Ghosts as Sinks}
-use Rattle.qos_io.specs.Bytes.{HoldsPrefix}
+use Rattle.qos_io.specs.Bytes.{HoldsPrefix, bytes_in}
 use Rattle.qos_io.specs.Fault.{HasRisen}
 use Rattle.qos_io.specs.Kept.{Closing}
 use Rattle.qos_pcap.specs.declared.fault.Stop.{Stop}
@@ -39,6 +39,18 @@ use Rattle.qos_main.specs.Report.{Reports}
 -- the command that a program's words ask for
 abbrev pub asked : List (String Global) → Option Command
 asked words = command_of (map string_bytes words)
+
+-- what holds of the command that a program's words ask for, if they ask for one
+abbrev pub IfAsked : List (String Global) → (Command → Type 0) → Type 0
+IfAsked words P = (command : Command) → asked words ≡ Some command → P command
+
+-- what holds of the records and the stop of a capture with these bytes
+abbrev pub IfReads : List ℕ → (List Record → Stop → Type 0) → Type 0
+IfReads bytes P = (records : List Record) (stop : Stop) → Reads bytes MAX_RECORDS records stop → P records stop
+
+-- the bytes of a command's input on a shelf
+abbrev pub input_on : {H In Out : Type 0} → Ghosts H In Out → H → Command → List ℕ
+input_on G shelf command = bytes_in (G.file shelf command.input)
 
 -- what a journal makes of a port with this plan, and what it sends
 abbrev pub schedule_by : Plan → List Entry → Schedule
@@ -172,6 +184,13 @@ pub record IsBegun (plan : Plan) (origin : ℕ) (records : List Record) (c : Fil
 abbrev pub HasLeft : Command → List ℕ → FileChange → Type 0
 HasLeft command bytes c =
     IsUntouched c ⊎ ((records : List Record) × (stop : Stop) × (origin : ℕ) × Reads bytes MAX_RECORDS records stop × IsBegun (plan_of command) origin records c)
+
+-- these of a command on a shelf that was `old` and is `new`
+abbrev pub IsOutcomeOn : {H In Out : Type 0} → Ghosts H In Out → Command → H → H → Ended → Type 0
+IsOutcomeOn G command old new ended = IsOutcome command (input_on G old command) (change_of G command.output old new) ended
+
+abbrev pub HasLeftOn : {H In Out : Type 0} → Ghosts H In Out → Command → H → H → Type 0
+HasLeftOn G command old new = HasLeft command (input_on G old command) (change_of G command.output old new)
 
 -- a run of that status was reported into a sink, which was `before` and is `after`, and the program ends with this number
 abbrev pub IsReported : {K : Type 0} → Sinks K → Status → K → K → ℕ → Type 0

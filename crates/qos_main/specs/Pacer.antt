@@ -31,7 +31,3 @@ abbrev pub next_in : PacerState → ℕ → ℕ → Option ℕ
 next_in p queued time =
     if nat_le p.aim p.clock || (queued == 0 || nat_lt p.aim (next_moment p time)) then None
     else Some (next_moment p time)
-
--- the dequeue after an arrival
-abbrev pub after_at : PacerState → ℕ → Option ℕ
-after_at p time = if nat_le time p.clock then Some p.clock else None

@@ -1,5 +1,5 @@
 -- What a receiver still gives, and what it has given.
-use Rattle.std.specs.Prelude.{◌≡◌, ◌⊎◌, ℕ, ◌+◌, ◌≤◌, List, [], ◌∷◌, None, Some, IfSome, MatchOption}
+use Rattle.std.specs.Prelude.{◌≡◌, ◌⊎◌, ℕ, ◌+◌, ◌≤◌, if◌then◌else◌, List, [], ◌∷◌, None, Some, IfSome, MatchOption}
 use Rattle.qos_io.specs.declared.source.Source.{Ghosts}
 use Rattle.qos_pcap.specs.declared.capture.Capture.{Capture}
 use Rattle.qos_pcap.specs.declared.fault.PcapFault.TheVariants.{Read}
@@ -10,14 +10,13 @@ use Rattle.qos_base.specs.Time.{origin_of}
 use Rattle.qos_pcap.specs.First.{first_stamp}
 use Rattle.qos_pcap.specs.Format.{Record}
 use Rattle.qos_pcap.specs.Given.{StillGives, given, limit_of, source_of, untaken}
-use Rattle.qos_base.specs.declared.reason.Reason.TheVariants.{TooLong, Oversize}
 use Rattle.port_sched.specs.declared.plain.TheConstants.{MTU}
 use Rattle.qos_main.specs.declared.limits.TheConstants.{MAX_RECORDS}
 use Rattle.qos_main.specs.declared.fate.Fate.TheVariants.{Admitted, Lost}
 use Rattle.qos_main.specs.declared.receive.Received.{Received}
 use Rattle.qos_main.specs.declared.receive.Received.TheVariants.{Admitted as Packet, Lost as Gone, Stopped as Nothing}
 use Rattle.qos_main.specs.declared.receive.Receiver.{Receiver}
-use Rattle.qos_main.specs.Fate.{fate_of, packet_of}
+use Rattle.qos_main.specs.Fate.{fate_of, is_lost, packet_of}
 use Rattle.qos_main.specs.Mbuf.{frame_of}
 
 -- a failed call stopped the reading
@@ -32,13 +31,11 @@ IsReceived place r (Packet m) = (fate_of r.cap r.wire ≡ Admitted) × (m.pkt �
 IsReceived place r (Gone reason) = fate_of r.cap r.wire ≡ Lost reason
 IsReceived place r Nothing = ⊥
 
--- the packet that was received is the one of this head, whatever its body
-abbrev pub IsPacketOf : Head → Received → Type 0
-IsPacketOf head (Packet m) = (m.pkt.index ≡ head.index) × (m.pkt.wire ≤ MTU)
-IsPacketOf head (Gone TooLong) = Unit {0}
-IsPacketOf head (Gone Oversize) = Unit {0}
-IsPacketOf head (Gone _) = ⊥
-IsPacketOf head Nothing = ⊥
+-- a record was received, and if its packet is admitted, it is not longer on the line than the port takes
+abbrev pub IsRecord : Received → Type 0
+IsRecord (Packet m) = m.pkt.wire ≤ MTU
+IsRecord (Gone reason) = Unit {0}
+IsRecord Nothing = ⊥
 
 module _ {S : Type 0} (G : Ghosts S) where
   -- the capture from which the next record comes: its head is read and its body is not
@@ -66,20 +63,24 @@ module _ {S : Type 0} (G : Ghosts S) where
     pub sure : IfSome rx.capture (λ c. G.IsSure (source_of c))
     pub none_failed : IsReadFault rx.stopped → ⊥
 
+  -- what no turn changes of an input, and what stays of it
+  pub record StaysReceiver (before after : Receiver S G) : Type 0 where
+    pub origin : after.origin ≡ before.origin
+    pub fine : IsFine before → IsFine after
+    -- one that was not opened gives no record, and one that has stopped stays as it is
+    pub opened : after.stopped ≡ NotOpened → (before.stopped ≡ NotOpened) × (after.read ≡ before.read)
+    pub still : before.head ≡ None → after ≡ before
+
   -- what a turn that answered this has made of a receiver that still gives these records and stops so
   abbrev pub Gives : Receiver S G → Received → ℕ → List Record → Stop → Type 0
   Gives after Nothing place records stop = ToCome after records stop
   Gives after received place records stop =
       (r : Record) × (rest : List Record) × (records ≡ r ∷ rest) × IsReceived place r received × ToCome after rest stop
 
--- how many records too long, and how many oversize ones, this is
-abbrev pub too_long_in : Received → ℕ
-too_long_in (Gone TooLong) = 1
-too_long_in _ = 0
-
-abbrev pub oversize_in : Received → ℕ
-oversize_in (Gone Oversize) = 1
-oversize_in _ = 0
+-- whether a record lost for the reason of this number was received, as a number
+abbrev pub lost_in : ℕ → Received → ℕ
+lost_in number (Gone reason) = if is_lost number (Lost reason) then 1 else 0
+lost_in number _ = 0
 
 -- how many records a turn has counted: in all, too long, and oversize
 pub record Adds (read too_long oversize : ℕ) {S : Type 0} {G : Ghosts S} (before after : Receiver S G) : Type 0 where
@@ -88,10 +89,8 @@ pub record Adds (read too_long oversize : ℕ) {S : Type 0} {G : Ghosts S} (befo
   pub oversize_is : after.oversize ≡ before.oversize + oversize
 
 abbrev pub Counted : {S : Type 0} {G : Ghosts S} → Receiver S G → Receiver S G → Received → Type 0
-Counted before after (Packet m) = Adds 1 0 0 before after × (m.pkt.wire ≤ MTU) × (m.pkt.index ≡ before.read)
-Counted before after (Gone TooLong) = Adds 1 1 0 before after
-Counted before after (Gone Oversize) = Adds 1 0 1 before after
-Counted before after (Gone _) = ⊥
+Counted before after (Packet m) = Adds 1 0 0 before after × (m.pkt.wire ≤ MTU)
+Counted before after (Gone reason) = Adds 1 (lost_in 4 (Gone reason)) (lost_in 3 (Gone reason)) before after
 Counted before after Nothing = Adds 0 0 0 before after × (after.head ≡ None)
 
 -- nothing was received yet

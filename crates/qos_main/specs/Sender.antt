@@ -5,6 +5,7 @@ use Rattle.qos_base.specs.declared.packet.Departure.{Departure}
 use Rattle.qos_io.specs.declared.sink.Sink.{Ghosts}
 use Rattle.qos_io.specs.declared.sink.PutFault.TheVariants.{Failed}
 use Rattle.qos_main.specs.declared.send.Sender.{Sender}
+use Rattle.qos_main.specs.declared.stamps.Stamps.{Stamps}
 use Rattle.qos_main.specs.Output.{Target, IsWhole, IsCut}
 
 -- the name of the file that a sink writes, if there is a sink and it has one
@@ -12,9 +13,17 @@ abbrev pub name_in : {K : Type 0} → (K → Option (List ℕ)) → Option K →
 name_in name None = None
 name_in name (Some k) = name k
 
+-- how sends with these stamps are written
+abbrev pub target_by : Stamps → (ℕ → List ℕ) → Target
+target_by stamps body = record { origin = stamps.origin; line = stamps.line; body = body }
+
 -- how a sender's sends are written
 abbrev pub target_of : {K : Type 0} → Sender K → (ℕ → List ℕ) → Target
-target_of s body = record { origin = s.origin; line = s.line; body = body }
+target_of s body = target_by s.stamps body
+
+-- a sender with this sink, which has put nothing
+abbrev pub unbegun : {K : Type 0} → Option K → Stamps → Sender K
+unbegun sink stamps = record { sink = sink; stamps = stamps; sent = 0; unwritten = 0; fault = None }
 
 module _ {K : Type 0} (G : Ghosts K) where
   -- Its output stands where these sends have brought it, where these are the bodies of the records by their places: a
@@ -37,8 +46,7 @@ module _ {K : Type 0} (G : Ghosts K) where
 
   -- what no call of it changes
   pub record StaysSender (before after : Sender K) : Type 0 where
-    pub origin : after.origin ≡ before.origin
-    pub line : after.line ≡ before.line
+    pub stamps : after.stamps ≡ before.stamps
     pub name : name_in G.name after.sink ≡ name_in G.name before.sink
     pub there : IsSome before.sink → IsSome after.sink
     pub none : before.sink ≡ None → after.sink ≡ None

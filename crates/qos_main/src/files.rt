@@ -157,6 +157,7 @@ impl Source for FileSource {
 
     ghost IsSure = { λ _. ⊥ };
 
+    #[inline(always)]
     fn read(&mut self, buf: &mut [u8]) -> Result<usize, Failed> {
         if let Some(n) = read_some(&mut self.reader, buf) {
             return Ok(n);

@@ -1,5 +1,5 @@
 //! The pacer: it tells the moments at which a port is to be dequeued.
-ghost use Rattle.std.specs.Prelude.{◌≡◌, ◌≤◌, ◌<◌, ◌^◌, max};
+ghost use Rattle.std.specs.Prelude.{◌≡◌, ◌≤◌, ◌<◌, ◌^◌, nat_le, max};
 ghost use Rattle.std.specs.Option.{unwrap_or};
 
 use std::marker::Model;
@@ -30,7 +30,7 @@ impl Model for Pacer {
 }
 
 impl Pacer {
-    ghost use Rattle.qos_main.specs.Pacer.{PacerState, new_pacer, after_aim, next_in, after_at};
+    ghost use Rattle.qos_main.specs.Pacer.{PacerState, new_pacer, after_aim, next_in};
 
     /// A pacer with clock 0 and aim 0. `quantum` is the least step of an idle dequeue, 1 to 10^9 byte times.
     pub fn new(quantum: u64) -> Pacer
@@ -59,10 +59,9 @@ impl Pacer {
         }
     }
 
-    /// The moment of the advance's next dequeue, for so many packets that wait and this port time, at most
-    /// 2^62. None where the advance is over; the clock is then at the aim or past it.
+    /// The moment of the advance's next dequeue, for so many packets that wait and this port time. None where the
+    /// advance is over; the clock is then at the aim or past it.
     pub fn next(&mut self, queued: u64, time: u64) -> Option<u64>
-        requires { time ≤ 2 ^ 62 }
         ensures moment { result ≡ next_in self.old queued time }
         ensures clock { self.new ≡ record self.old { clock = unwrap_or (next_in self.old queued time) (max self.old.clock self.old.aim) } }
     {
@@ -89,13 +88,11 @@ impl Pacer {
         self.went = sent;
     }
 
-    /// The moment of the dequeue that follows an arrival: the clock, or None exactly where port time, at
-    /// most 2^62, is past it.
-    pub fn after(&self, time: u64) -> Option<u64>
-        requires { time ≤ 2 ^ 62 }
-        ensures { result ≡ after_at self.now time }
+    /// Tells whether a dequeue follows an arrival: port time is not past the clock.
+    pub fn is_due(&self, time: u64) -> bool
+        ensures { result ≡ nat_le time self.now.clock }
     {
-        (time <= self.clock).then_some(self.clock)
+        time <= self.clock
     }
 
     /// The clock, in byte times of the line.

@@ -1,11 +1,13 @@
 //! The port: one entry of its journal a call, an arrival or a dequeue at a moment of the pacing rule.
-ghost use Rattle.std.specs.Prelude.{◌≡◌, ◌≤◌, ◌<◌, ◌+◌, ◌^◌, ◌++◌, [], ◌∷◌, length, max, IfOk, IfSome, IfNone, OnOk, OnErr, vec_capacity};
+ghost use Rattle.std.specs.Prelude.{◌≡◌, ◌≤◌, ◌<◌, ◌+◌, ◌^◌, ◌++◌, [], ◌∷◌, length, nat_le, max, IfOk, IfSome, IfNone, OnOk, OnErr};
+ghost use Rattle.std.specs.Prelude.{vec_capacity};
 ghost use Rattle.std.specs.Option.{unwrap_or};
 ghost use Rattle.qos_main.specs.declared.entry.Entry.TheVariants.{Arrive};
 ghost use Rattle.qos_main.specs.Plan.{IsPlan};
 
 use crate::ended::{PortCounts, PortEnd};
 use crate::entry::Entry;
+use crate::laws::every_arrival_ends;
 use crate::limits::MAX_RECORDS;
 use crate::pacer::Pacer;
 use crate::plan::Plan;
@@ -36,8 +38,18 @@ impl<T: Parcel> Model for PortRun<T> {
     ghost invariant = { λ r. IsSound T.packet r.plan r.sched r.pacer r.journal.items r.tally };
 }
 
+// Adds an entry to a journal, which stays as it is where memory is refused.
+fn enter(journal: &mut Vec<Entry>, entry: Entry) -> Result<(), NoMemory>
+    ensures entered { OnOk result (journal.new.items ≡ journal.old.items ++ entry ∷ []) }
+    ensures refused { OnErr result (journal.new.items ≡ journal.old.items) }
+{
+    journal.reserve(1)?;
+    journal.push_reserved(entry);
+    Ok(())
+}
+
 impl<T: Parcel> PortRun<T> {
-    ghost use Rattle.qos_main.specs.Pacer.{PacerState, after_aim, next_in, after_at};
+    ghost use Rattle.qos_main.specs.Pacer.{PacerState, after_aim, next_in};
     ghost use Rattle.qos_main.specs.Schedule.{arrivals_of};
     ghost use Rattle.qos_main.specs.PortRun.{RunState, new_run, schedule, after_entry_of, HasDequeued};
     ghost use Rattle.qos_main.specs.Outcome.{HasCounts};
@@ -74,17 +86,19 @@ impl<T: Parcel> PortRun<T> {
     /// The moment of the advance's next dequeue, to which the clock goes. None where the advance is over.
     pub fn next(&mut self) -> Option<u64>
         ensures moment { result ≡ next_in self.old.pacer (length (schedule self.old).port.queue) (schedule self.old).port.time }
-        ensures clock { self.new ≡ record self.old { pacer = record self.old.pacer { clock = unwrap_or result (max self.old.pacer.clock self.old.pacer.aim) } } }
+        ensures clock { self.new ≡ record self.old {
+          pacer = record self.old.pacer { clock = unwrap_or result (max self.old.pacer.clock self.old.pacer.aim) };
+        } }
         ensures went { self.old.pacer.went ≡ (schedule self.old).went }
     {
         self.pacer.next(self.sched.queued(), self.sched.time())
     }
 
-    /// The moment of the dequeue that follows an arrival. None where port time is past the clock.
-    pub fn after_arrival(&self) -> Option<u64>
-        ensures { result ≡ after_at self.now.pacer (schedule self.now).port.time }
+    /// Tells whether a dequeue follows an arrival: port time is not past the clock.
+    pub fn is_due(&self) -> bool
+        ensures { result ≡ nat_le (schedule self.now).port.time self.now.pacer.clock }
     {
-        self.pacer.after(self.sched.time())
+        self.pacer.is_due(self.sched.time())
     }
 
     /// The clock, in byte times of the line.
@@ -113,10 +127,10 @@ impl<T: Parcel> PortRun<T> {
         ensures capacity { vec_capacity out.new ≡ vec_capacity out.old }
     {
         dequeues_keep::<T>();
-        self.journal.reserve(1)?;
+        every_arrival_ends();
         let room = self.plan.burst;
+        enter(&mut self.journal, Entry::Dequeue { now, room })?;
         let sent = self.sched.dequeue(now, room, out);
-        self.journal.push_reserved(Entry::Dequeue { now, room });
         self.pacer.went(sent > 0);
         self.tally.dequeues += 1;
         Ok(())
@@ -134,8 +148,8 @@ impl<T: Parcel> PortRun<T> {
         ensures turned_away { IfOk result (λ away. IfSome away (λ t. (t ≡ parcel) × (self.new.waiting ≡ self.old.waiting))) }
         ensures refused { OnErr result (self.new ≡ self.old) }
     {
-        self.journal.reserve(1)?;
-        self.journal.push_reserved(Entry::Arrive(parcel.pkt()));
+        every_arrival_ends();
+        enter(&mut self.journal, Entry::Arrive(parcel.pkt()))?;
         self.tally.arrived += 1;
         match self.sched.arrive(parcel) {
             Ok(()) => Ok(None),

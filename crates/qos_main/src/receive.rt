@@ -1,5 +1,6 @@
 //! Receive: one record after another, each into a slot of its own or lost for a reason.
-ghost use Rattle.std.specs.Prelude.{◌≡◌, ◌≢◌, ◌≤◌, ◌⊎◌, ◌∷◌, [], ℕ, List, Option, Some, None, OnOk, IfOk, IfErr, IfSome, IfNone, IsErrOf, length, take};
+ghost use Rattle.std.specs.Prelude.{◌≡◌, ◌≢◌, ◌≤◌, ◌⊎◌, ◌∷◌, [], ℕ, List, Option, Some, None, OnOk, IfOk, IfErr, IfSome, IfNone, IsErrOf};
+ghost use Rattle.std.specs.Prelude.{length, take};
 ghost use Rattle.std.specs.Option.{option_map};
 ghost use Rattle.qos_io.specs.Fault.{Counts};
 ghost use Rattle.qos_pcap.specs.Format.{Record};
@@ -8,12 +9,12 @@ ghost use Rattle.qos_pcap.specs.Given.{StillGives, NextStamp, HasGiven, HasPasse
 ghost use Rattle.qos_main.specs.Fate.{packet_of};
 ghost use Rattle.qos_main.specs.Mbuf.{frame_of};
 ghost use Rattle.qos_main.specs.declared.receive.Halt.{Halt};
-ghost use Rattle.qos_main.specs.Receiver.{IsReadFault, IsReceived, IsPacketOf};
+ghost use Rattle.qos_main.specs.Receiver.{IsReadFault, IsReceived, IsRecord};
 ghost use Rattle.qos_main.specs.Halts.{IfFault};
 ghost use Rattle.qos_io.specs.Bytes.{bytes_in};
 ghost use Rattle.qos_io.specs.Shelves.{ChangesOnly};
 ghost use Rattle.qos_pcap.specs.Reads.{Reads};
-ghost use Rattle.qos_main.specs.Receiver.{IsReading, IsFine, ToCome, IsFresh, HasOrigin};
+ghost use Rattle.qos_main.specs.Receiver.{IsReading, IsFine, ToCome, IsFresh, HasOrigin, StaysReceiver};
 
 use crate::fate::{Fate, packet};
 use crate::limits::{MAX_RECORDS, SLOT_BYTES};
@@ -68,7 +69,8 @@ fn body_into_front<S: Source>(
     requires next { option_map (λ head. head.cap) (untaken capture.old) ≡ Some cap }
     requires fits { cap ≤ length slot.old }
     ensures passed { OnOk result (HasPassedBody capture.old capture.new) }
-    ensures body { OnOk result ((head : Head) (records : List Record) (stop : Stop) → untaken capture.old ≡ Some head → StillGives S.remaining capture.old records stop
+    ensures body { OnOk result ((head : Head) (records : List Record) (stop : Stop) → untaken capture.old ≡ Some head
+        → StillGives S.remaining capture.old records stop
         → (rest : List Record) × (records ≡ recorded head (take cap slot.new) ∷ rest) × StillGives S.remaining capture.new rest stop) }
     ensures fault { IfErr result (λ fault. fault ≢ PcapFault.Read → (records : List Record) (stop : Stop)
         → StillGives S.remaining capture.old records stop → (records ≡ []) × (stop ≡ Stop.Fault fault)) }
@@ -105,12 +107,16 @@ fn keep<S: Source>(
 }
 
 // The head of the next record, or how the capture stops.
+#[inline(always)]
 fn next_of<S: Source>(capture: &mut Capture<S>) -> (Option<Head>, Stop)
     requires { untaken capture.old ≡ None }
     ensures head { IfSome result.0 (HasGiven capture.old capture.new) }
-    ensures keeps { IfSome result.0 (λ head. (records : List Record) (stop : Stop) → StillGives S.remaining capture.old records stop → StillGives S.remaining capture.new records stop) }
-    ensures stops { IfNone result.0 ((records : List Record) (stop : Stop) → StillGives S.remaining capture.old records stop → IsReadFault result.1 ⊎ ((records ≡ []) × (result.1 ≡ stop))) }
-    ensures stamp { (stamp : Option ℕ) → NextStamp S.remaining capture.old stamp → IsReadFault result.1 ⊎ (option_map (λ head. head.stamp) result.0 ≡ stamp) }
+    ensures keeps { IfSome result.0 (λ head. (records : List Record) (stop : Stop) → StillGives S.remaining capture.old records stop
+        → StillGives S.remaining capture.new records stop) }
+    ensures stops { IfNone result.0 ((records : List Record) (stop : Stop) → StillGives S.remaining capture.old records stop
+        → IsReadFault result.1 ⊎ ((records ≡ []) × (result.1 ≡ stop))) }
+    ensures stamp { (stamp : Option ℕ) → NextStamp S.remaining capture.old stamp → IsReadFault result.1 ⊎ (option_map
+        (λ head. head.stamp) result.0 ≡ stamp) }
     ensures goes_on { IfSome result.0 (λ head. IsReadFault result.1 → ⊥) }
     ensures opened { result.1 ≢ Stop.NotOpened }
     ensures limit { limit_of capture.new ≡ limit_of capture.old }
@@ -133,9 +139,11 @@ fn receive<S: Source>(
     requires captured { head.now.cap ≤ head.now.wire }
     ensures passed { OnOk result (HasPassedBody capture.old capture.new) }
     ensures received { IfOk result (λ received. (records : List Record) (stop : Stop) → StillGives S.remaining capture.old records stop
-        → (r : Record) × (rest : List Record) × (records ≡ r ∷ rest) × IsReceived head.now.index r received × StillGives S.remaining capture.new rest stop) }
-    ensures packet { IfOk result (IsPacketOf head.now) }
-    ensures halted { IfErr result (IfFault (λ fault. (records : List Record) (stop : Stop) → StillGives S.remaining capture.old records stop
+        → (r : Record) × (rest : List Record) × (records ≡ r ∷ rest) × IsReceived head.now.index r received
+        × StillGives S.remaining capture.new rest stop) }
+    ensures packet { IfOk result IsRecord }
+    ensures halted { IfErr result (IfFault (λ fault. (records : List Record) (stop : Stop)
+        → StillGives S.remaining capture.old records stop
         → IsReadFault (Stop.Fault fault) ⊎ ((records ≡ []) × (Stop.Fault fault ≡ stop)))) }
     ensures limit { limit_of capture.new ≡ limit_of capture.old }
     ensures given { OnOk result (given capture.new ≡ given capture.old) }
@@ -160,7 +168,7 @@ fn receive<S: Source>(
 
 impl<S: Source> Receiver<S> {
     ghost use Rattle.std.specs.Prelude.{◌<◌, ◌+◌, ◌^◌};
-    ghost use Rattle.qos_main.specs.Receiver.{Gives, Counted, too_long_in, oversize_in};
+    ghost use Rattle.qos_main.specs.Receiver.{Gives, Counted, lost_in};
 
     /// Receives the next record. A packet that is admitted comes in a slot of its own; a record that is not keeps
     /// none and is passed over.
@@ -169,12 +177,10 @@ impl<S: Source> Receiver<S> {
     pub fn turn(&mut self, slots: &mut Slots) -> Result<Received, NoMemory>
         requires { IsReading S.Source self.old }
         ensures reading { OnOk result (IsReading S.Source self.new) }
-        ensures received { IfOk result (λ received. (records : List Record) (stop : Stop) → ToCome S.Source self.old records stop → Gives S.Source self.new received self.old.read records stop) }
+        ensures received { IfOk result (λ received. (records : List Record) (stop : Stop) → ToCome S.Source self.old records stop
+            → Gives S.Source self.new received self.old.read records stop) }
         ensures counted { IfOk result (Counted self.old self.new) }
-        ensures origin { self.new.origin ≡ self.old.origin }
-        ensures fine { IsFine S.Source self.old → IsFine S.Source self.new }
-        ensures opened { self.new.stopped ≡ Stop.NotOpened → (self.old.stopped ≡ Stop.NotOpened) × (self.new.read ≡ self.old.read) }
-        ensures still { self.old.head ≡ None → self.new ≡ self.old }
+        ensures stays { StaysReceiver S.Source self.old self.new }
     {
         let Some(head) = self.head else {
             return Ok(Received::Stopped);
@@ -201,7 +207,11 @@ impl<S: Source> Receiver<S> {
     fn count(&mut self, received: &Received)
         requires read { self.old.read < 2 ^ 32 }
         requires lost { self.old.too_long + self.old.oversize ≤ self.old.read }
-        ensures { self.new ≡ record self.old { read = self.old.read + 1; too_long = self.old.too_long + too_long_in received.now; oversize = self.old.oversize + oversize_in received.now } }
+        ensures { self.new ≡ record self.old {
+          read = self.old.read + 1;
+          too_long = self.old.too_long + lost_in 4 received.now;
+          oversize = self.old.oversize + lost_in 3 received.now;
+        } }
     {
         self.read += 1;
         match received {
@@ -229,7 +239,8 @@ fn stopped<S: Source>(stopped: Stop) -> Receiver<S>
 
 // Reads the header of a capture and its first head.
 fn begin<S: Source>(source: S) -> Receiver<S>
-    ensures told { (bytes : List ℕ) (records : List Record) (stop : Stop) → S.remaining source ≡ Some bytes → Reads bytes MAX_RECORDS records stop → ToCome S.Source result records stop }
+    ensures told { (bytes : List ℕ) (records : List Record) (stop : Stop) → S.remaining source ≡ Some bytes
+        → Reads bytes MAX_RECORDS records stop → ToCome S.Source result records stop }
     ensures origin { (bytes : List ℕ) → S.remaining source ≡ Some bytes → HasOrigin bytes result }
     ensures reading { IsReading S.Source result }
     ensures numbers { IsFresh result }
@@ -257,9 +268,11 @@ fn begin<S: Source>(source: S) -> Receiver<S>
 ///
 /// `NoMemory`: the shelf was refused memory.
 pub fn open_input<H: Shelf>(shelf: &mut H, name: &str) -> Result<Receiver<H::In>, NoMemory>
-    ensures told { H.Tells shelf.old → IfOk result (λ rx. (records : List Record) (stop : Stop) → Reads (bytes_in (H.file shelf.old name.now)) MAX_RECORDS records stop → ToCome H.In.Source rx records stop) }
+    ensures told { H.Tells shelf.old → IfOk result (λ rx. (records : List Record) (stop : Stop)
+        → Reads (bytes_in (H.file shelf.old name.now)) MAX_RECORDS records stop → ToCome H.In.Source rx records stop) }
     ensures origin { H.Tells shelf.old → IfOk result (λ rx. HasOrigin (bytes_in (H.file shelf.old name.now)) rx) }
-    ensures absent { H.Tells shelf.old → H.file shelf.old name.now ≡ None → (H.IsSureToRead shelf.old name.now → ⊥) → IfOk result (λ rx. (rx.head ≡ None) × (rx.stopped ≡ Stop.NotOpened)) }
+    ensures absent { H.Tells shelf.old → H.file shelf.old name.now ≡ None → (H.IsSureToRead shelf.old name.now → ⊥) → IfOk result
+        (λ rx. (rx.head ≡ None) × (rx.stopped ≡ Stop.NotOpened)) }
     ensures reading { IfOk result (IsReading H.In.Source) }
     ensures numbers { IfOk result IsFresh }
     ensures fine { H.IsSureToRead shelf.old name.now → IfOk result (IsFine H.In.Source) }

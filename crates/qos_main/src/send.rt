@@ -1,17 +1,18 @@
 //! Send: what is sent is put into the output and counted, and the first fault is kept.
-ghost use Rattle.std.specs.Prelude.{◌≡◌, ◌≤◌, ◌<◌, ◌+◌, ◌^◌, ◌++◌, [], ◌∷◌, ℕ, List, All, Some, None, map, length, IsErrOf, OnOk, OnErr, IfSome, IsSome};
-ghost use Rattle.qos_base.specs.Time.{IsLineRate};
+ghost use Rattle.std.specs.Prelude.{◌≡◌, ◌≤◌, ◌<◌, ◌+◌, ◌^◌, ◌++◌, [], ◌∷◌, ℕ, List, All, Some, None, map, length, IsErrOf, OnOk, OnErr};
+ghost use Rattle.std.specs.Prelude.{IfSome, IsSome};
 ghost use Rattle.qos_base.specs.declared.packet.Departure.{Departure};
 ghost use Rattle.qos_base.specs.declared.packet.Pkt.{Pkt};
 ghost use Rattle.qos_io.specs.Bytes.{held_after, PutSome};
 ghost use Rattle.qos_io.specs.Fault.{Counts};
 ghost use Rattle.qos_main.specs.declared.mbuf.Mbuf.{Mbuf};
 ghost use Rattle.qos_main.specs.Mbuf.{IsBodyIn, seen};
-ghost use Rattle.qos_main.specs.Output.{Target, send_text};
-ghost use Rattle.qos_main.specs.Sender.{HasWritten, IsFine, IsTold, StaysSender, name_in};
+ghost use Rattle.qos_main.specs.Output.{send_text};
+ghost use Rattle.qos_main.specs.Sender.{HasWritten, StaysSender, target_by, unbegun};
 
 use crate::mbuf::Mbuf;
-use qos_base::{Departure, send_stamp};
+use crate::stamps::Stamps;
+use qos_base::Departure;
 use qos_io::{PutFault, Sink};
 use qos_pcap::{put_header, put_record};
 
@@ -20,10 +21,8 @@ use qos_pcap::{put_header, put_record};
 pub struct Sender<K: Sink> {
     /// Where it is written; None where it could not be created.
     pub sink: Option<K>,
-    /// The origin of its stamps, in nanoseconds.
-    pub origin: u64,
-    /// The rate of the port's line, in bytes per second.
-    pub line: u64,
+    /// The stamps of its records.
+    pub stamps: Stamps,
     /// How many sends' records were put whole.
     pub sent: u64,
     /// How many sends' records were not.
@@ -34,23 +33,15 @@ pub struct Sender<K: Sink> {
 
 impl<K: Sink> Sender<K> {
     /// Begins an output: its header is put, where there is a sink.
-    ///
-    /// `origin` is in nanoseconds, and `line` in bytes per second.
-    pub fn begin(sink: Option<K>, origin: u64, line: u64) -> Sender<K>
-        ensures written { ((k : K) (held : List ℕ) → sink ≡ Some k → K.contents k ≡ Some held → held ≡ []) → (body : ℕ → List ℕ) → HasWritten K.Sink body [] result }
+    pub fn begin(sink: Option<K>, stamps: Stamps) -> Sender<K>
+        ensures written { IfSome sink (λ k. K.contents k ≡ Some []) → (body : ℕ → List ℕ) → HasWritten K.Sink body [] result }
         ensures numbers { (result.sent ≡ 0) × (result.unwritten ≡ 0) }
-        ensures stamps { (result.origin ≡ origin) × (result.line ≡ line) }
-        ensures name { name_in K.name result.sink ≡ name_in K.name sink }
-        ensures there { IsSome sink → IsSome result.sink }
-        ensures told { IfSome sink (λ k. IsSome (K.contents k)) → IsTold K.Sink result }
-        ensures none { sink ≡ None → result.sink ≡ None }
-        ensures fine { IsSome sink → IfSome sink K.IsSure → IsFine K.Sink result }
+        ensures stays { StaysSender K.Sink (unbegun sink stamps) result }
     {
         let Some(mut sink) = sink else {
             return Sender {
                 sink: None,
-                origin,
-                line,
+                stamps,
                 sent: 0,
                 unwritten: 0,
                 fault: Some(PutFault::Failed),
@@ -59,8 +50,7 @@ impl<K: Sink> Sender<K> {
         let fault = put_header(&mut sink).err();
         Sender {
             sink: Some(sink),
-            origin,
-            line,
+            stamps,
             sent: 0,
             unwritten: 0,
             fault,
@@ -69,8 +59,7 @@ impl<K: Sink> Sender<K> {
 
     /// Writes the record of a send, unless there was a fault, and counts it.
     pub fn send(&mut self, departure: &Departure<Mbuf>)
-        requires line { IsLineRate self.old.line }
-        requires few { self.old.sent + self.old.unwritten < 2 ^ 62 }
+        requires { self.old.sent + self.old.unwritten < 2 ^ 62 }
         ensures written { (body : ℕ → List ℕ) (sends : List (Departure Pkt)) → IsBodyIn body departure.now.parcel
             → HasWritten K.Sink body sends self.old → HasWritten K.Sink body (sends ++ seen departure.now ∷ []) self.new }
         ensures counted { self.new.sent + self.new.unwritten ≡ self.old.sent + self.old.unwritten + 1 }
@@ -84,7 +73,7 @@ impl<K: Sink> Sender<K> {
             self.unwritten += 1;
             return;
         };
-        match put_send(sink, self.origin, self.line, departure) {
+        match put_send(sink, &self.stamps, departure) {
             Ok(()) => self.sent += 1,
             Err(fault) => {
                 self.fault = Some(fault);
@@ -95,9 +84,9 @@ impl<K: Sink> Sender<K> {
 
     /// Writes the records of a dequeue's sends, in their order.
     pub fn send_all(&mut self, sends: &[Departure<Mbuf>])
-        requires line { IsLineRate self.old.line }
-        requires few { self.old.sent + self.old.unwritten + length sends.now < 2 ^ 62 }
-        ensures written { (body : ℕ → List ℕ) (before : List (Departure Pkt)) → All (λ (d : Departure Mbuf). IsBodyIn body d.parcel) sends.now
+        requires { self.old.sent + self.old.unwritten + length sends.now < 2 ^ 62 }
+        ensures written { (body : ℕ → List ℕ) (before : List (Departure Pkt)) → All
+            (λ (d : Departure Mbuf). IsBodyIn body d.parcel) sends.now
             → HasWritten K.Sink body before self.old → HasWritten K.Sink body (before ++ map seen sends.now) self.new }
         ensures counted { self.new.sent + self.new.unwritten ≡ self.old.sent + self.old.unwritten + length sends.now }
         ensures stays { StaysSender K.Sink self.old self.new }
@@ -111,18 +100,17 @@ impl<K: Sink> Sender<K> {
 // Puts the record of a send.
 fn put_send<K: Sink>(
     out: &mut K,
-    origin: u64,
-    line: u64,
+    stamps: &Stamps,
     departure: &Departure<Mbuf>,
 ) -> Result<(), PutFault>
-    requires { IsLineRate line }
-    ensures added { (body : ℕ → List ℕ) → IsBodyIn body departure.now.parcel → OnOk result (K.contents out.new ≡ held_after (send_text (record { origin = origin; line = line; body = body }) (seen departure.now)) (K.contents out.old)) }
-    ensures refused { (body : ℕ → List ℕ) → IsBodyIn body departure.now.parcel → OnErr result (PutSome (send_text (record { origin = origin; line = line; body = body }) (seen departure.now)) (K.contents out.old) (K.contents out.new)) }
+    ensures added { (body : ℕ → List ℕ) → IsBodyIn body departure.now.parcel
+        → OnOk result (K.contents out.new ≡ held_after (send_text (target_by stamps.now body) (seen departure.now)) (K.contents out.old)) }
+    ensures refused { (body : ℕ → List ℕ) → IsBodyIn body departure.now.parcel
+        → OnErr result (PutSome (send_text (target_by stamps.now body) (seen departure.now)) (K.contents out.old) (K.contents out.new)) }
     ensures told { IsSome (K.contents out.old) → IsSome (K.contents out.new) }
     ensures name { K.name out.new ≡ K.name out.old }
     ensures faults { Counts K.faults K.IsSure out.old out.new (IsErrOf result PutFault.Failed) }
 {
     let mbuf = &departure.parcel;
-    let stamp = send_stamp(origin, departure.time, line);
-    put_record(out, stamp, mbuf.pkt.wire, mbuf.frame())
+    put_record(out, stamps.of(departure.time), mbuf.pkt.wire, mbuf.frame())
 }

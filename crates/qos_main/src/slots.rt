@@ -50,6 +50,13 @@ impl Slots {
         let _ = self.free.push(Slot { bytes });
     }
 
+    /// Gives the slot of a packet back, if there is one.
+    pub fn give_if(&mut self, away: Option<Mbuf>) {
+        if let Some(mbuf) = away {
+            self.give(mbuf);
+        }
+    }
+
     /// Gives back the slots of packets that were sent.
     pub fn give_all(&mut self, sent: &mut Vec<Departure<Mbuf>>)
         ensures empty { sent.new.items ≡ [] }

@@ -1,17 +1,16 @@
 //! The call that the program makes: a command, from its words to its report.
 ghost use Rattle.std.specs.Prelude.{◌≡◌, ◌≤◌, ◌⊎◌, ℕ, List, [], ◌∷◌, Some, None, true, false, IfOk, OnErr};
 ghost use Rattle.std.specs.Option.{option_map};
-ghost use Rattle.qos_io.specs.Bytes.{bytes_in};
 ghost use Rattle.qos_io.specs.Fault.{HasRisen};
 ghost use Rattle.qos_io.specs.Shelves.{ChangesOnly};
-ghost use Rattle.qos_pcap.specs.Reads.{IsWholeCapture, Reads};
+ghost use Rattle.qos_pcap.specs.Reads.{IsWholeCapture};
 ghost use Rattle.qos_pcap.specs.Format.{Record};
 ghost use Rattle.qos_main.specs.declared.limits.TheConstants.{MAX_RECORDS};
 ghost use Rattle.qos_main.specs.Plan.{IsPlan};
 ghost use Rattle.qos_main.specs.Status.{status_number, status_for};
 ghost use Rattle.qos_main.specs.Ended.{HasRoom, IsPrepared, IsEndOf};
-ghost use Rattle.qos_main.specs.Outcome.{asked, IsOutcome, HasLeft, IsRun, IsReported, IsEmptyEnd, change_of};
-ghost use Rattle.qos_main.specs.Words.{Command as Asked, KeepsRules};
+ghost use Rattle.qos_main.specs.Outcome.{asked, IfAsked, IfReads, input_on, IsOutcomeOn, HasLeftOn, IsRun, IsReported, IsEmptyEnd};
+ghost use Rattle.qos_main.specs.Words.{KeepsRules};
 
 use crate::ended::{Ended, InputEnd, PortCounts, PortEnd};
 use crate::laws::every_arrival_ends;
@@ -127,15 +126,17 @@ fn run<H: Shelf>(
 ) -> Result<(Ended, Status), NoMemory>
     requires { KeepsRules command.now }
     ensures ran { IfOk result (λ r. IsRun r.0 (λ status. r.1 ≡ status)) }
-    ensures outcome { H.Tells shelf.old → IfOk result (λ r. IsOutcome command.now (bytes_in (H.file shelf.old command.now.input)) (change_of H.Shelf command.now.output shelf.old shelf.new) r.0) }
-    ensures left { H.Tells shelf.old → OnErr result (HasLeft command.now (bytes_in (H.file shelf.old command.now.input)) (change_of H.Shelf command.now.output shelf.old shelf.new)) }
+    ensures outcome { H.Tells shelf.old → IfOk result (λ r. (number : ℕ)
+        → IsOutcomeOn H.Shelf command.now shelf.old shelf.new (record r.0 { status = number })) }
+    ensures left { H.Tells shelf.old → OnErr result (HasLeftOn H.Shelf command.now shelf.old shelf.new) }
     ensures read { H.IsSureToRead shelf.old command.now.input → IfOk result (λ r. r.1 ≡ Status.Read → ⊥) }
-    ensures absent { H.Tells shelf.old → H.file shelf.old command.now.input ≡ None → (H.IsSureToRead shelf.old command.now.input → ⊥) → IfOk result (λ r. r.1 ≡ Status.Read) }
+    ensures absent { H.Tells shelf.old → H.file shelf.old command.now.input ≡ None → (H.IsSureToRead shelf.old command.now.input → ⊥)
+        → IfOk result (λ r. r.1 ≡ Status.Read) }
     ensures write { H.IsSureToWrite shelf.old command.now.output → IfOk result (λ r. r.0.write_fault ≡ true ∷ [] → ⊥) }
     ensures capture { H.Tells shelf.old → IfOk result (λ r. r.1 ≡ Status.Capture
-        → (records : List Record) → IsWholeCapture MAX_RECORDS (bytes_in (H.file shelf.old command.now.input)) records → ⊥) }
+        → (records : List Record) → IsWholeCapture MAX_RECORDS (input_on H.Shelf shelf.old command.now) records → ⊥) }
     ensures complete { H.Tells shelf.old → H.IsSureToRead shelf.old command.now.input → H.IsSureToWrite shelf.old command.now.output
-        → IfOk result (λ r. (records : List Record) (stop : Stop) → Reads (bytes_in (H.file shelf.old command.now.input)) MAX_RECORDS records stop → r.1 ≡ status_for stop false) }
+        → IfOk result (λ r. IfReads (input_on H.Shelf shelf.old command.now) (λ records stop. r.1 ≡ status_for stop false)) }
     ensures files { ChangesOnly H.Shelf (Some command.now.output) shelf.old shelf.new }
     ensures never_falls { H.faults shelf.old ≤ H.faults shelf.new }
 {
@@ -153,18 +154,22 @@ fn run<H: Shelf>(
 // Runs the command that the words ask for, before the report.
 fn run_words<H: Shelf>(alloc: Global, words: &[String], shelf: &mut H) -> (Ended, Status)
     ensures usage { asked words.now ≡ None → (result.1 ≡ Status.Usage) × IsEmptyEnd result.0 }
-    ensures ran { (command : Asked) → asked words.now ≡ Some command → IsRun result.0 (λ status. result.1 ≡ status) ⊎ ((result.1 ≡ Status.Memory) × IsEmptyEnd result.0) }
-    ensures outcome { H.Tells shelf.old → (command : Asked) → asked words.now ≡ Some command
-        → IsOutcome command (bytes_in (H.file shelf.old command.input)) (change_of H.Shelf command.output shelf.old shelf.new) result.0
-        ⊎ (IsEmptyEnd result.0 × HasLeft command (bytes_in (H.file shelf.old command.input)) (change_of H.Shelf command.output shelf.old shelf.new)) }
-    ensures read { (command : Asked) → asked words.now ≡ Some command → H.IsSureToRead shelf.old command.input → result.1 ≡ Status.Read → ⊥ }
-    ensures absent { H.Tells shelf.old → (command : Asked) → asked words.now ≡ Some command → H.file shelf.old command.input ≡ None → (H.IsSureToRead shelf.old command.input → ⊥)
-        → (result.1 ≡ Status.Read) ⊎ (result.1 ≡ Status.Memory) }
-    ensures write { (command : Asked) → asked words.now ≡ Some command → H.IsSureToWrite shelf.old command.output → result.0.write_fault ≡ true ∷ [] → ⊥ }
-    ensures capture { H.Tells shelf.old → (command : Asked) → asked words.now ≡ Some command → result.1 ≡ Status.Capture
-        → (records : List Record) → IsWholeCapture MAX_RECORDS (bytes_in (H.file shelf.old command.input)) records → ⊥ }
-    ensures complete { H.Tells shelf.old → (command : Asked) → asked words.now ≡ Some command → H.IsSureToRead shelf.old command.input → H.IsSureToWrite shelf.old command.output
-        → (records : List Record) (stop : Stop) → Reads (bytes_in (H.file shelf.old command.input)) MAX_RECORDS records stop → (result.1 ≡ status_for stop false) ⊎ (result.1 ≡ Status.Memory) }
+    ensures ran { IfAsked words.now (λ command. IsRun result.0 (λ status. result.1 ≡ status) ⊎ ((result.1 ≡ Status.Memory)
+        × IsEmptyEnd result.0)) }
+    ensures outcome { H.Tells shelf.old → IfAsked words.now (λ command. ((number : ℕ)
+        → IsOutcomeOn H.Shelf command shelf.old shelf.new (record result.0 { status = number }))
+        ⊎ (IsEmptyEnd result.0 × HasLeftOn H.Shelf command shelf.old shelf.new)) }
+    ensures read { IfAsked words.now (λ command. H.IsSureToRead shelf.old command.input → result.1 ≡ Status.Read → ⊥) }
+    ensures absent { H.Tells shelf.old → IfAsked words.now (λ command. H.file shelf.old command.input ≡ None
+        → (H.IsSureToRead shelf.old command.input → ⊥)
+        → (result.1 ≡ Status.Read) ⊎ (result.1 ≡ Status.Memory)) }
+    ensures write { IfAsked words.now (λ command. H.IsSureToWrite shelf.old command.output → result.0.write_fault ≡ true ∷ [] → ⊥) }
+    ensures capture { H.Tells shelf.old → IfAsked words.now (λ command. result.1 ≡ Status.Capture
+        → (records : List Record) → IsWholeCapture MAX_RECORDS (input_on H.Shelf shelf.old command) records → ⊥) }
+    ensures complete { H.Tells shelf.old → IfAsked words.now (λ command. H.IsSureToRead shelf.old command.input
+        → H.IsSureToWrite shelf.old command.output
+        → IfReads (input_on H.Shelf shelf.old command) (λ records stop. (result.1 ≡ status_for stop false)
+        ⊎ (result.1 ≡ Status.Memory))) }
     ensures files { ChangesOnly H.Shelf (option_map (λ command. command.output) (asked words.now)) shelf.old shelf.new }
     ensures never_falls { H.faults shelf.old ≤ H.faults shelf.new }
 {
@@ -201,33 +206,35 @@ pub fn qos_top<R: Sync, H: Shelf, K: Sink, G: Gate>(
 
     // Where they ask for one, the status that is reported follows from how the input stopped and whether the output
     // has a fault; or memory was refused, and nothing is told but that.
-    ensures ran { (command : Asked) → asked words.now ≡ Some command → IsRun result (λ status. IsReported K.Sink status said.old said.new result.status)
-        ⊎ (IsReported K.Sink Status.Memory said.old said.new result.status × IsEmptyEnd result) }
+    ensures ran { IfAsked words.now (λ command. IsRun result (λ status. IsReported K.Sink status said.old said.new result.status)
+        ⊎ (IsReported K.Sink Status.Memory said.old said.new result.status × IsEmptyEnd result)) }
 
     // The run is as the input's bytes say: the journal is the paced journal of its arrivals, which are the admitted
     // packets of the records before the input's stop; the output is what the journal's schedule sends; each record is
     // accounted for. Where memory was refused, the output is as it was, or begins as some first records would have made it.
-    ensures outcome { H.Tells shelf.old → (command : Asked) → asked words.now ≡ Some command
-        → IsOutcome command (bytes_in (H.file shelf.old command.input)) (change_of H.Shelf command.output shelf.old shelf.new) result
-        ⊎ (IsEmptyEnd result × HasLeft command (bytes_in (H.file shelf.old command.input)) (change_of H.Shelf command.output shelf.old shelf.new)) }
+    ensures outcome { H.Tells shelf.old → IfAsked words.now
+        (λ command. IsOutcomeOn H.Shelf command shelf.old shelf.new result
+        ⊎ (IsEmptyEnd result × HasLeftOn H.Shelf command shelf.old shelf.new)) }
 
     // 4 only where the name of the input is not sure to read; and so ends a command whose input is not there, but for
     // want of memory.
-    ensures read { (command : Asked) → asked words.now ≡ Some command → H.IsSureToRead shelf.old command.input → result.status ≡ 4 → ⊥ }
-    ensures absent { H.Tells shelf.old → (command : Asked) → asked words.now ≡ Some command → H.file shelf.old command.input ≡ None → (H.IsSureToRead shelf.old command.input → ⊥)
-        → (result.status ≡ 4) ⊎ (result.status ≡ 7) }
+    ensures read { IfAsked words.now (λ command. H.IsSureToRead shelf.old command.input → result.status ≡ 4 → ⊥) }
+    ensures absent { H.Tells shelf.old → IfAsked words.now (λ command. H.file shelf.old command.input ≡ None
+        → (H.IsSureToRead shelf.old command.input → ⊥)
+        → (result.status ≡ 4) ⊎ (result.status ≡ 7)) }
 
     // The output has a fault only where its name is not sure to write.
-    ensures write { (command : Asked) → asked words.now ≡ Some command → H.IsSureToWrite shelf.old command.output → result.write_fault ≡ true ∷ [] → ⊥ }
+    ensures write { IfAsked words.now (λ command. H.IsSureToWrite shelf.old command.output → result.write_fault ≡ true ∷ [] → ⊥) }
 
     // 6 only where the input is no whole capture.
-    ensures capture { H.Tells shelf.old → (command : Asked) → asked words.now ≡ Some command → result.status ≡ 6
-        → (records : List Record) → IsWholeCapture MAX_RECORDS (bytes_in (H.file shelf.old command.input)) records → ⊥ }
+    ensures capture { H.Tells shelf.old → IfAsked words.now (λ command. result.status ≡ 6
+        → (records : List Record) → IsWholeCapture MAX_RECORDS (input_on H.Shelf shelf.old command) records → ⊥) }
 
     // With names and a report that do not fail, the input's bytes alone say how a command ends, but for want of memory.
-    ensures complete { H.Tells shelf.old → (command : Asked) → asked words.now ≡ Some command → H.IsSureToRead shelf.old command.input → H.IsSureToWrite shelf.old command.output
-        → (HasRisen (K.faults said.old) (K.faults said.new) → ⊥) → (records : List Record) (stop : Stop) → Reads (bytes_in (H.file shelf.old command.input)) MAX_RECORDS records stop
-        → (result.status ≡ status_number (status_for stop false)) ⊎ (result.status ≡ 7) }
+    ensures complete { H.Tells shelf.old → IfAsked words.now (λ command. H.IsSureToRead shelf.old command.input
+        → H.IsSureToWrite shelf.old command.output
+        → (HasRisen (K.faults said.old) (K.faults said.new) → ⊥) → IfReads (input_on H.Shelf shelf.old command)
+        (λ records stop. (result.status ≡ status_number (status_for stop false)) ⊎ (result.status ≡ 7))) }
 
     // No file changes but the output's, and no count of faults falls.
     ensures files { ChangesOnly H.Shelf (option_map (λ command. command.output) (asked words.now)) shelf.old shelf.new }

@@ -2,7 +2,8 @@
 ghost use Rattle.std.specs.Prelude.{◌≡◌, ◌≢◌, ◌≤◌, ◌^◌, map, IfSome, string_bytes};
 ghost use Rattle.std.specs.Char.{is_ascii_digit};
 ghost use Rattle.std.specs.List.{list_all};
-ghost use Rattle.qos_main.specs.Words.{is_number, number_of, within, KeepsRules, is_name, begins_run, command_with, line_of, bucket_number_of, command_of};
+ghost use Rattle.qos_main.specs.Words.{is_number, number_of, within, KeepsRules, is_name, begins_run, command_with, line_of};
+ghost use Rattle.qos_main.specs.Words.{bucket_number_of, command_of};
 
 use crate::limits::{BURST, QUANTUM};
 use crate::plan::Plan;
@@ -83,7 +84,8 @@ struct Numbers<'a> {
 
 fn with_numbers<'a>(input: &'a str, output: &'a str, words: Numbers<'_>) -> Option<Command<'a>>
     requires { input.now ≢ output.now }
-    ensures exact { result ≡ command_with input.now output.now (line_of words.entry.line.now) (bucket_number_of words.entry.size.now) (bucket_number_of words.entry.credits.now) (bucket_number_of words.entry.period.now) }
+    ensures exact { result ≡ command_with input.now output.now (line_of words.entry.line.now) (bucket_number_of words.entry.size.now)
+        (bucket_number_of words.entry.credits.now) (bucket_number_of words.entry.period.now) }
     ensures rules { IfSome result KeepsRules }
 {
     let line = read_number(words.line, 1_000_000, 12_500_000_000)?;

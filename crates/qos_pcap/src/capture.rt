@@ -71,6 +71,7 @@ impl<S: Source> Capture<S> {
     /// `TooMany`: the limit of records is reached, and bytes are left. `CutRecord`: fewer than 16 bytes are
     /// left here. `HugeRecord`: the captured length is above 262,144. `Read`: the source failed. Whether the
     /// body is there is not looked at.
+    #[inline(always)]
     pub fn next_head(&mut self) -> Result<Option<Head>, PcapFault>
         requires { untaken self.old ≡ None }
 

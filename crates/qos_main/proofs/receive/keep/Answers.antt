@@ -1,8 +1,5 @@
-use Rattle.std.proofs.Common.{◌≡◌, ℕ, List, [], length, take, ap, ◌∙◌, arith}
+use Rattle.qos_main.proofs.Names.{◌≡◌, ℕ, List, [], ◌∷◌, length, take, sym, ap, ◌∙◌, arith, with_items_is, Pkt, recorded}
 use Rattle.std.specs.Vec.{with_items}
-use Rattle.std.proofs.lemmas.List.{with_items_is}
-use Rattle.qos_base.specs.declared.packet.Pkt.{Pkt}
-use Rattle.qos_main.proofs.Frames.{same_body}
 use Rattle.qos_main.proofs.receive.keep.Goals as goal
 
 pub invariant_of-result : goal.invariant_of-result
@@ -24,5 +21,9 @@ returns-clause-body g c = λ records stop gives.
     let given = c.in_ok-body_into_front.ensures.body c.args.head.now records stop c.requires.next gives in
     let cap : c.packet.result.cap ≡ c.args.head.now.cap = ap (λ (p : Pkt). p.cap) (c.packet.ensures []) in
     let items = with_items_is c.args.bytes slot (c.body_into_front.auto.slot ∙ c.deref_mut.ensures.len) in
-    let all : List ℕ = (with_items c.args.bytes slot).items in
-    (given.0, same_body c.args.head.now (take c.args.head.now.cap slot) _ records given.0 (ap (λ n. take n all) cap ∙ ap (take c.args.head.now.cap) items) given.1, given.2)
+    let all : List ℕ = (with_items c.args.bytes slot).items in (
+      given.0,
+      given.1 ∙ ap (λ b. recorded c.args.head.now b ∷ given.0)
+          (sym (ap (λ n. take n all) cap ∙ ap (take c.args.head.now.cap) items)),
+      given.2,
+    )

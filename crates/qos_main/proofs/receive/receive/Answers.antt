@@ -1,9 +1,5 @@
-use Rattle.std.proofs.Common.{◌≡◌, ◌≤◌, [], refl, sym, ap, ◌∙◌, subst}
-use Rattle.qos_base.specs.declared.packet.Pkt.{Pkt}
-use Rattle.qos_pcap.specs.Heads.{recorded}
-use Rattle.port_sched.specs.declared.plain.TheConstants.{MTU}
-use Rattle.qos_main.specs.Mbuf.{frame_of}
-use Rattle.qos_main.proofs.Frames.{admitted-short}
+use Rattle.qos_main.proofs.Names.{[], refl, sym, ap, ◌∙◌, Pkt, recorded, frame_of}
+use Rattle.qos_main.proofs.Records.{admitted-short}
 use Rattle.qos_main.proofs.receive.receive.Goals as goal
 
 pub returns-in-Ok-clause-received : goal.returns-in-Ok-clause-received
@@ -14,12 +10,15 @@ returns-in-Ok-clause-received g c = λ records stop gives.
 pub returns-in-Ok-keep-clause-received : goal.returns-in-Ok-keep-clause-received
 returns-in-Ok-keep-clause-received g c = λ records stop gives.
     let given = c.in-Ok-keep.ensures.body records stop gives in
-    let body = frame_of c.in-Ok-keep.mbuf in
-    (recorded c.args.head.now body, given.0, given.1, (sym c.of.ensures ∙ c.in-Admitted.is, c.in-Ok-keep.ensures.packet body, refl), given.2)
+    let body = frame_of c.in-Ok-keep.mbuf in (
+      recorded c.args.head.now body,
+      given.0,
+      given.1,
+      (sym c.of.ensures ∙ c.in-Admitted.is, c.in-Ok-keep.ensures.packet body, refl),
+      given.2,
+    )
 
 pub returns-in-Ok-keep-clause-packet : goal.returns-in-Ok-keep-clause-packet
 returns-in-Ok-keep-clause-packet g c =
-    let is = c.in-Ok-keep.ensures.packet [] in
-    let short = admitted-short c.args.head.now.cap c.args.head.now.wire (sym c.of.ensures ∙ c.in-Admitted.is) in
-    let wire : c.in-Ok-keep.mbuf.pkt.wire ≡ c.args.head.now.wire = ap (λ (p : Pkt). p.wire) is in
-    (ap (λ (p : Pkt). p.index) is, subst (λ n. n ≤ MTU) (sym wire) short)
+    let wire = ap (λ (p : Pkt). p.wire) (c.in-Ok-keep.ensures.packet []) in
+    rw wire (admitted-short c.args.head.now.cap c.args.head.now.wire (sym c.of.ensures ∙ c.in-Admitted.is))

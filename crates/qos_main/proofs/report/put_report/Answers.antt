@@ -1,5 +1,4 @@
-use Rattle.std.proofs.Common.{◌≡◌, List, ℕ, OnOk, OnErr, refl, sym, subst, ◌∙◌}
-use Rattle.qos_io.specs.Bytes.{held_after, PutSome}
+use Rattle.qos_main.proofs.Names.{◌≡◌, refl, sym, ◌∙◌}
 use Rattle.qos_main.specs.declared.status.Status.{Status}
 use Rattle.qos_main.specs.declared.status.Status.TheVariants.{Fine, Usage, Read, Write, Capture, Memory}
 use Rattle.qos_main.specs.Report.{report_text, status_line}
@@ -16,10 +15,8 @@ other-text Memory other = refl
 
 pub returns-clause-told : goal.returns-clause-told
 returns-clause-told g c =
-    let text = c.status_line-line.ensures ∙ sym (other-text c.args.status c.in_default.not-Usage) in
-    subst (λ (bytes : List ℕ). OnOk c.put-2.result (g.K.Sink.contents c.put-2.new.self ≡ held_after bytes (g.K.Sink.contents c.args.said.now))) text c.put-2.ensures.added
+    rw (c.status_line-line.ensures ∙ sym (other-text c.args.status c.in_default.not-Usage)) at c.put-2.ensures.added
 
 pub returns-clause-refused : goal.returns-clause-refused
 returns-clause-refused g c =
-    let text = c.status_line-line.ensures ∙ sym (other-text c.args.status c.in_default.not-Usage) in
-    subst (λ (bytes : List ℕ). OnErr c.put-2.result (PutSome bytes (g.K.Sink.contents c.args.said.now) (g.K.Sink.contents c.put-2.new.self))) text c.put-2.ensures.refused
+    rw (c.status_line-line.ensures ∙ sym (other-text c.args.status c.in_default.not-Usage)) at c.put-2.ensures.refused

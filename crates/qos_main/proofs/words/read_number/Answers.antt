@@ -1,6 +1,5 @@
-use Rattle.std.proofs.Common.{◌≡◌, true, inr, sym, ap, ◌∙◌, Some, arith, rules}
+use Rattle.qos_main.proofs.Names.{◌≡◌, true, inr, sym, ap, ◌∙◌, Some, arith, rules, is_number}
 use Rattle.qos_main.proofs.Numbers.{read_value, refused_value, outside, inside}
-use Rattle.qos_main.specs.Words.{is_number}
 use Rattle.qos_main.proofs.words.read_number.Goals as goal
 
 pub returns-in_default-clause-exact : goal.returns-in_default-clause-exact

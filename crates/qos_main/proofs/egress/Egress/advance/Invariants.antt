@@ -1,6 +1,4 @@
-use Rattle.std.proofs.Common.{ℕ, List, ◌-◌}
-use Rattle.qos_main.specs.Sender.{StaysSender}
-use Rattle.qos_main.specs.Egress.{Carries}
+use Rattle.qos_main.proofs.Names.{ℕ, List, ◌-◌, StaysSender, Carries}
 use Rattle.qos_main.proofs.Advances.{Advancing}
 use Rattle.qos_main.proofs.egress.Egress.advance.Given as goal
 

@@ -1,16 +1,13 @@
-use Rattle.std.proofs.Common.{◌≡◌, ◌+◌, ◌++◌, ℕ, List, take, map}
-use Rattle.std.specs.List.{All}
-use Rattle.qos_base.specs.declared.packet.Departure.{Departure}
-use Rattle.qos_base.specs.declared.packet.Pkt.{Pkt}
-use Rattle.qos_main.specs.declared.mbuf.Mbuf.{Mbuf}
-use Rattle.qos_main.specs.Mbuf.{IsBodyIn, seen}
-use Rattle.qos_main.specs.Sender.{HasWritten, StaysSender}
+use Rattle.qos_main.proofs.Names.{◌≡◌, ◌+◌, ◌++◌, ℕ, List, take, map, All, Departure, Pkt, Mbuf, IsBodyIn, seen, HasWritten}
+use Rattle.qos_main.proofs.Names.{StaysSender}
 use Rattle.qos_main.proofs.send.Sender.send_all.Given as goal
 
 -- the first sends were written
 abbrev pub invariant-loop-departure : goal.invariant-loop-departure
 invariant-loop-departure g l = record {
-  written : (body : ℕ → List ℕ) (before : List (Departure Pkt)) → All (λ (d : Departure Mbuf). IsBodyIn body d.parcel) l.sends → HasWritten g.K.Sink body before l.initial.self → HasWritten g.K.Sink body (before ++ map seen (take l.departure-index l.sends)) l.self;
+  written : (body : ℕ → List ℕ) (before : List (Departure Pkt)) → All (λ (d : Departure Mbuf). IsBodyIn body d.parcel) l.sends
+      → HasWritten g.K.Sink body before l.initial.self
+      → HasWritten g.K.Sink body (before ++ map seen (take l.departure-index l.sends)) l.self;
   counted : l.self.sent + l.self.unwritten ≡ l.initial.self.sent + l.initial.self.unwritten + l.departure-index;
   stays : StaysSender g.K.Sink l.initial.self l.self;
 }

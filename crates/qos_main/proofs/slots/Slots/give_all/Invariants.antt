@@ -1,4 +1,4 @@
-use Rattle.std.proofs.Common.{◌≡◌, vec_capacity}
+use Rattle.qos_main.proofs.Names.{◌≡◌, vec_capacity}
 use Rattle.qos_main.proofs.slots.Slots.give_all.Given as goal
 
 abbrev pub invariant-loop-departure : goal.invariant-loop-departure
