@@ -61,6 +61,7 @@ impl ClassCredits {
         requires { time ≤ 2 ^ 63 }
         ensures renewed { IsTrue result ↔ (self.old.due ≤ time) }
         ensures exact { self.new ≡ classes_brought time self.old }
+        ensures ahead { time < self.new.due }
         ensures step { steps.new ≡ steps.old + 1 }
     {
         steps.tick();

@@ -1,0 +1,88 @@
+-- A change of one pipe of a subport and of one subport of a port, in the code and in the model.
+use Rattle.std.proofs.Common.{◌≡◌, ℕ, zero, suc, ◌<◌, ◌≤◌, List, [], ◌∷◌, length, map, drop, get_or, set, refl, sym, ap, subst, ◌∙◌, arith}
+use Rattle.std.specs.Prelude.{All}
+use Rattle.std.proofs.lemmas.List.{length-set, map-set}
+use Rattle.std.proofs.Math.ListN.{get_or-map}
+use Rattle.std.proofs.lemmas.List.Elements.{All-set, All-drop, All-get_or}
+use Rattle.std.proofs.Math.Seq.{map-set_same}
+use Rattle.std.specs.Vec.{with_item}
+use Rattle.qos_base.specs.declared.packet.Pkt.{Pkt}
+use Rattle.queue_store.specs.Queues.{list_of, without_front}
+use Rattle.port_sched.specs.declared.serving.TheConstants.{MAX_WIRE}
+use Rattle.port_sched.specs.declared.pipe.PipeBooks.{PipeBooks}
+use Rattle.port_sched.specs.declared.subport.SubportBooks.{SubportBooks}
+use Rattle.port_sched.specs.Pipe.{Pipe}
+use Rattle.port_sched.specs.Port.{at, in_subport, pipe_emptied, subport_emptied}
+use Rattle.port_sched.specs.Books.{pipe_of, subport_of, IsPipeBooks, IsSubportBooks}
+
+-- an item that was written stands for a step on what the old one stood for
+pub at-set :
+    {X Y : Type 0} (of : X → Y) (step : Y → Y) (xs : List X) (k : ℕ) (old new : X) → old ≡ get_or xs k old →
+    of new ≡ step (of old) → map of (set xs k new) ≡ at k step (map of xs)
+at-set of step [] k old new here is = refl
+at-set of step (x ∷ xs) zero old new here is = ap (λ y. y ∷ map of xs) (is ∙ ap (λ z. step (of z)) here)
+at-set of step (x ∷ xs) (suc k) old new here is = ap (λ ys. of x ∷ ys) (at-set of step xs k old new here is)
+
+module _ {T : Type 0} (s : SubportBooks T) (k : ℕ) (old new : PipeBooks T) (here : old ≡ get_or s.pipes.items k old) where
+  pub subport-set : (step : Pipe T → Pipe T) → pipe_of new ≡ step (pipe_of old) → subport_of (record s { pipes = with_item s.pipes k new }) ≡ in_subport k step (subport_of s)
+  subport-set step is = ap (λ pipes. record (subport_of s) { pipes = pipes }) (at-set pipe_of step s.pipes.items k old new here is)
+
+  pub subport-same : pipe_of new ≡ pipe_of old → subport_of (record s { pipes = with_item s.pipes k new }) ≡ subport_of s
+  subport-same is =
+      ap (λ pipes. record (subport_of s) { pipes = pipes }) (map-set_same pipe_of s.pipes.items k new old (is ∙ ap pipe_of here))
+
+-- ---- what is as it was but for the packets that wait
+
+emptied-set :
+    {X Y : Type 0} (of : X → Y) (empty : Y → Y) (xs : List X) (k : ℕ) (old new : X) → old ≡ get_or xs k old →
+    empty (of new) ≡ empty (of old) → map empty (map of (set xs k new)) ≡ map empty (map of xs)
+emptied-set of empty xs k old new here same =
+    ap (map empty) (map-set of xs k new)
+    ∙ map-set_same empty (map of xs) k (of new) (of old) (same ∙ ap (λ x. empty (of x)) here ∙ ap empty (sym (get_or-map of xs k old)))
+
+module _ {T : Type 0} where
+  pub pipe-same : (p : PipeBooks T) (queue : ℕ) → pipe_emptied (pipe_of (record p { queues = without_front queue p.queues })) ≡ pipe_emptied (pipe_of p)
+  pipe-same p queue =
+      ap (λ lists. record (pipe_of p) { queues = record p.queues { lists = lists } }) (map-set_same (λ _. []) p.queues.lists queue (drop 1 (list_of queue p.queues)) [] refl)
+
+  pub subport-emptied : (s : SubportBooks T) (k : ℕ) (old new : PipeBooks T) → old ≡ get_or s.pipes.items k old → pipe_emptied (pipe_of new) ≡ pipe_emptied (pipe_of old) → subport_emptied (subport_of (record s { pipes = with_item s.pipes k new })) ≡ subport_emptied (subport_of s)
+  subport-emptied s k old new here same =
+      ap (λ pipes. record (subport_of s) { pipes = pipes }) (emptied-set pipe_of pipe_emptied s.pipes.items k old new here same)
+
+  pub subports-emptied :
+      (subports : List (SubportBooks T)) (k : ℕ) (old new : SubportBooks T) → old ≡ get_or subports k old →
+      subport_emptied (subport_of new) ≡ subport_emptied (subport_of old) →
+      map subport_emptied (map subport_of (set subports k new)) ≡ map subport_emptied (map subport_of subports)
+  subports-emptied = emptied-set subport_of subport_emptied
+
+-- ---- what is kept where a pipe is changed
+
+module _ {T : Type 0} (packet : T → Pkt) (ticked : ℕ) where
+  pub subport-keeps : (s : SubportBooks T) (k : ℕ) (p : PipeBooks T) → IsSubportBooks packet ticked s → IsPipeBooks packet ticked p → IsSubportBooks packet ticked (record s { pipes = with_item s.pipes k p })
+  subport-keeps s k p was sound =
+      let count = length-set s.pipes.items k p in
+      record {
+        level = was.level;
+        cursor = omega (arith, count, was.cursor);
+        few = omega (arith, count, was.few);
+        periods = was.periods;
+        pipes = All-set (IsPipeBooks packet ticked) s.pipes.items k p sound was.pipes;
+      }
+
+  pub read-keeps :
+      (s : SubportBooks T) (k : ℕ) (p : PipeBooks T) → IsSubportBooks packet ticked s → k < length s.pipes.items →
+      p ≡ get_or s.pipes.items k p → IsPipeBooks packet ticked p
+  read-keeps s k p was inside here =
+      subst (IsPipeBooks packet ticked) (sym here) (All-get_or (IsPipeBooks packet ticked) s.pipes.items k p inside was.pipes)
+
+  pub pipe-drained : (p : PipeBooks T) (queue : ℕ) → queue < length p.queues.lists → IsPipeBooks packet ticked p → IsPipeBooks packet ticked (record p { queues = without_front queue p.queues })
+  pipe-drained p queue inside was =
+      let lists = p.queues.lists in
+      let short = λ (ts : List T). All (λ t. (packet t).wire ≤ MAX_WIRE) ts in
+      record {
+        level = was.level;
+        lists = length-set lists queue (drop 1 (list_of queue p.queues)) ∙ was.lists;
+        sizes = was.sizes;
+        short = All-set short lists queue (drop 1 (list_of queue p.queues))
+            (All-drop (λ t. (packet t).wire ≤ MAX_WIRE) 1 (list_of queue p.queues) (All-get_or short lists queue [] inside was.short)) was.short;
+      }

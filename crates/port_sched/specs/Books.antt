@@ -1,0 +1,84 @@
+-- What the numbers and queues that the code keeps stand for, and what it keeps true of them.
+use Rattle.std.specs.Prelude.{◌≡◌, ℕ, ◌*◌, ◌/◌, ◌≤◌, ◌<◌, List, length, map, drop, All}
+use Rattle.qos_base.specs.declared.packet.Pkt.{Pkt}
+use Rattle.qos_base.specs.declared.packet.Departure.{Departure}
+use Rattle.port_sched.specs.declared.level.LevelBooks.{LevelBooks}
+use Rattle.port_sched.specs.declared.pipe.PipeBooks.{PipeBooks}
+use Rattle.port_sched.specs.declared.subport.SubportBooks.{SubportBooks}
+use Rattle.port_sched.specs.declared.serving.Serving.{Serving}
+use Rattle.port_sched.specs.declared.serving.TheConstants.{MAX_WIRE}
+use Rattle.port_sched.specs.Level.{Level}
+use Rattle.port_sched.specs.Pipe.{Pipe}
+use Rattle.port_sched.specs.Subport.{Subport}
+use Rattle.port_sched.specs.Classes.{Visit}
+use Rattle.port_sched.specs.Visit.{Service}
+
+abbrev pub level_of : LevelBooks → Level
+level_of l = record {
+  plan = record {
+    tb_credits = l.bucket.per_period;
+    tb_period = l.bucket.period;
+    tb_size = l.bucket.size;
+    tc_credits = l.classes.whole;
+    tc_period = l.classes.period;
+  };
+  credits = l.bucket.credits;
+  classes = l.classes.credits;
+  due = l.classes.due;
+}
+
+-- the bucket is brought up to this moment, in whole periods
+pub record IsBrought (ticked : ℕ) (l : LevelBooks) : Type 0 where
+  pub some_period : 1 ≤ l.bucket.period
+  pub brought : l.bucket.time ≡ l.bucket.period * (ticked / l.bucket.period)
+
+module _ {T : Type 0} where
+  abbrev pub pipe_of : PipeBooks T → Pipe T
+  pipe_of p = record {
+    level = level_of p.level;
+    round = p.wrr;
+    weight = p.weight;
+    share = p.share;
+    seen = p.seen;
+    queues = p.queues;
+  }
+
+  abbrev pub subport_of : SubportBooks T → Subport T
+  subport_of s = record {
+    level = level_of s.level;
+    oversub = s.oversub;
+    oversubscribed = s.oversubscribed;
+    watermark = s.watermark;
+    period = s.period;
+    cursor = s.cursor;
+    pipes = map pipe_of s.pipes.items;
+  }
+
+  -- the sends of this dequeue are those of `out` from `first` on
+  abbrev pub visit_of : Serving → LevelBooks → PipeBooks T → List (Departure T) → Visit T
+  visit_of v l p out = record {
+    oversub = v.oversub;
+    subport = level_of l;
+    pipe = pipe_of p;
+    time = v.time;
+    room = v.room;
+    sends = drop v.first out;
+  }
+
+  abbrev pub service_of : Serving → SubportBooks T → List (Departure T) → Service T
+  service_of v s out = record { subport = subport_of s; time = v.time; room = v.room; sends = drop v.first out }
+
+  module _ (packet : T → Pkt) where
+    pub record IsPipeBooks (ticked : ℕ) (p : PipeBooks T) : Type 0 where
+      pub level : IsBrought ticked p.level
+      pub lists : length p.queues.lists ≡ 16
+      pub sizes : length p.queues.sizes ≡ 16
+      pub short : All (λ ts. All (λ t. (packet t).wire ≤ MAX_WIRE) ts) p.queues.lists
+
+    pub record IsSubportBooks (ticked : ℕ) (s : SubportBooks T) : Type 0 where
+      pub level : IsBrought ticked s.level
+      pub cursor : s.cursor < length s.pipes.items
+      pub few : length s.pipes.items ≤ 4096
+      -- each renewal puts the next one off by at least 1
+      pub periods : s.period < s.level.classes.due
+      pub pipes : All (IsPipeBooks ticked) s.pipes.items

@@ -1,0 +1,97 @@
+//! The packets that wait.
+ghost use Rattle.std.specs.Prelude.{◌≡◌, ◌≤◌, ◌<◌, ◌*◌, ◌^◌, ℕ, length, drop, slice_get, All};
+ghost use Rattle.port_sched.specs.Port.{left_in, left_in_subport, left_of, queued, emptied, pipe_emptied, subport_emptied};
+ghost use Rattle.port_sched.specs.Books.{pipe_of, subport_of, IsPipeBooks, IsSubportBooks};
+
+use crate::pipe::{PIPE_QUEUES, PipeBooks};
+use crate::port::PortSched;
+use crate::subport::SubportBooks;
+use qos_base::Parcel;
+
+impl<T: Parcel> PortSched<T> {
+    /// How many packets wait.
+    pub fn queued(&self) -> u64
+        ensures { result ≡ queued self.now }
+    {
+        let mut total = 0;
+        for subport in &self.subports {
+            total += subport.queued();
+        }
+        total
+    }
+
+    /// Takes a packet that still waits, in the order of subport, pipe and queue; None exactly where none does. All
+    /// else stays as it is.
+    pub fn drain_out(&mut self) -> Option<T>
+        ensures first { result ≡ slice_get (left_of self.old) 0 }
+        ensures rest { left_of self.new ≡ drop 1 (left_of self.old) }
+        ensures same { emptied self.new ≡ emptied self.old }
+    {
+        for subport in 0..self.subports.len() {
+            if let Some(t) = self.subports[subport].drain_out() {
+                return Some(t);
+            }
+        }
+        None
+    }
+}
+
+impl<T: Parcel> SubportBooks<T> {
+    fn queued(&self) -> u64
+        requires few { length self.now.pipes.items ≤ 4096 }
+        requires queues { All (λ p. length p.queues.lists ≡ 16) self.now.pipes.items }
+        ensures exact { result ≡ length (left_in_subport (subport_of self.now)) }
+        ensures limit { result ≤ 2 ^ 48 }
+    {
+        let mut total = 0;
+        for pipe in &self.pipes {
+            total += pipe.queued();
+        }
+        total
+    }
+
+    fn drain_out(&mut self) -> Option<T>
+        requires queues { All (λ p. length p.queues.lists ≡ 16) self.old.pipes.items }
+        ensures first { result ≡ slice_get (left_in_subport (subport_of self.old)) 0 }
+        ensures rest { left_in_subport (subport_of self.new) ≡ drop 1 (left_in_subport (subport_of self.old)) }
+        ensures same { subport_emptied (subport_of self.new) ≡ subport_emptied (subport_of self.old) }
+        ensures sound { (ticked : ℕ) → IsSubportBooks T.packet ticked self.old → IsSubportBooks T.packet ticked self.new }
+    {
+        for pipe in 0..self.pipes.len() {
+            if let Some(t) = self.pipes[pipe].drain_out() {
+                return Some(t);
+            }
+        }
+        None
+    }
+}
+
+impl<T: Parcel> PipeBooks<T> {
+    fn queued(&self) -> u64
+        requires { length self.now.queues.lists ≡ 16 }
+        ensures exact { result ≡ length (left_in (pipe_of self.now)) }
+        ensures limit { result ≤ 2 ^ 36 }
+    {
+        let mut total = 0;
+        for queue in 0..PIPE_QUEUES {
+            total += u64::from(self.queues.len(queue));
+        }
+        total
+    }
+
+    fn drain_out(&mut self) -> Option<T>
+        requires { length self.old.queues.lists ≡ 16 }
+        ensures queues { length self.new.queues.lists ≡ 16 }
+        ensures first { result ≡ slice_get (left_in (pipe_of self.old)) 0 }
+        ensures rest { left_in (pipe_of self.new) ≡ drop 1 (left_in (pipe_of self.old)) }
+        ensures same { pipe_emptied (pipe_of self.new) ≡ pipe_emptied (pipe_of self.old) }
+        ensures sound { (ticked : ℕ) → IsPipeBooks T.packet ticked self.old → IsPipeBooks T.packet ticked self.new }
+    {
+        for queue in 0..PIPE_QUEUES {
+            if let Some(t) = self.queues.pop(queue) {
+                return Some(t);
+            }
+        }
+        None
+    }
+}
