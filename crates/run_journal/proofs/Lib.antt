@@ -1,0 +1,9 @@
+pub mod Choices
+pub mod Entries
+pub mod Placed
+pub mod Steady
+pub mod Runs
+pub mod Lives
+pub mod Advances
+pub mod Ends
+pub mod Arrivals
