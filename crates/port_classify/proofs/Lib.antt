@@ -1,0 +1,3 @@
+pub mod Choosing
+pub mod Leasts
+pub mod ReadBack

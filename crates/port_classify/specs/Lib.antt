@@ -1,0 +1,5 @@
+pub mod Frame
+pub mod Laws
+pub mod Parts
+pub mod Place
+pub mod Written
