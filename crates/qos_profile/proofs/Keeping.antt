@@ -1,5 +1,5 @@
 -- Facts keep the ranges of their keys.
-use Rattle.std.proofs.Common.{◌≡◌, ◌==◌, ℕ, ◌+◌, ◌≤◌, Bool, true, false, cond, not, ◌&&◌, ◌||◌, List, [], ◌∷◌, ◌++◌, length, find, Option, None, Some, Result, Ok, Err, refl, sym, ap, subst, ◌∙◌, arith, nat_le}
+use Rattle.std.proofs.Common.{◌≡◌, ◌==◌, ℕ, ◌+◌, ◌≤◌, Bool, true, false, cond, not, ◌&&◌, ◌||◌, List, [], ◌∷◌, ◌++◌, length, find, Option, None, Some, Result, Ok, Err, refl, sym, ap, subst, ◌∙◌, nat_le}
 use Rattle.std.specs.List.{list_all, take_while}
 use Rattle.std.proofs.lemmas.Bool.{and_parts, leb-true, eqb-true, eq-eqb}
 use Rattle.profile_lines.specs.Lines.{Line, NotText, Blank, Head as HeadLine, Entry, Neither}
@@ -10,13 +10,12 @@ use Rattle.qos_profile.specs.declared.value.Value.{Value}
 use Rattle.qos_profile.specs.declared.value.Value.TheVariants as values
 use Rattle.qos_profile.specs.declared.fact.Fact.{Fact}
 use Rattle.qos_profile.specs.declared.head.Head.{Head}
-use Rattle.qos_profile.specs.declared.section.Section.{Section}
 use Rattle.qos_profile.specs.Table.{Form, Key}
 use Rattle.qos_profile.specs.Table as table
 use Rattle.qos_profile.specs.Values.{in_range, number_in, as_number, value_of, word_at}
 use Rattle.qos_profile.specs.Heads.{fits, head_of}
-use Rattle.qos_profile.specs.Facts.{keys_of, given, given_in, given_by, fact_with, slots_of, word_in_place}
-use Rattle.qos_profile.specs.Sections.{is_no_head, or_none, fact_of_line, facts_of, section_with, section_at, sections_of, head_or_red}
+use Rattle.qos_profile.specs.Facts.{keys_of, given, given_in, fact_with, slots_of, told_by, word_in_place}
+use Rattle.qos_profile.specs.Sections.{is_no_head, or_none, fact_of_line, facts_of, sections_of, head_or_red}
 use Rattle.qos_profile.specs.Kept.{IsGiven, EachFact, AreGiven, is_number_form, is_number_group, IsNumberIn}
 
 EachFact-append : (P : Fact → Type 0) (xs ys : List Fact) → EachFact P xs → EachFact P ys → EachFact P (xs ++ ys)
@@ -51,7 +50,7 @@ sections-given n (HeadLine w ∷ ls) =
     (given-lines (head_or_red (head_of w)) (n + 1) (take_while is_no_head ls), sections-given (n + 1) ls)
 
 -- what a test says of all keys it says of the one that is found
-found-passes : (P q : Key → Bool) (keys : List Key) (key : Key) → list_all P keys ≡ true → find q keys ≡ Some key → P key ≡ true
+pub found-passes : (P q : Key → Bool) (keys : List Key) (key : Key) → list_all P keys ≡ true → find q keys ≡ Some key → P key ≡ true
 found-passes P q [] key all e = absurd (cc)
 found-passes P q (k ∷ keys) key all e =
     let parts = and_parts (P k) (list_all P keys) all in
@@ -63,42 +62,48 @@ found-passes P q (k ∷ keys) key all e =
     same-some : (a b : Key) → Some a ≡ Some b → a ≡ b
     same-some a b h = cc
 
--- a fact with its slots and its value
-pub record IsMadeOf (key : Key) (value : Result Value FaultKind) (fact : Fact) : Type 0 where
+-- a fact with its slots, what it tells, and its value
+pub record IsMadeOf (key : Key) (word : List ℕ) (value : Result Value FaultKind) (fact : Fact) : Type 0 where
   pub group : fact.group ≡ key.group
+  pub slots : slots_of key.place (key.first, key.last) word ≡ Ok (fact.first, fact.last)
+  pub told : fact.told ≡ told_by key.only fact.value
   pub made : value ≡ Ok fact.value
-
-group_of : Fact → ℕ
-group_of f = f.group
 
 ok-same : (a b : Fact) → let A : Type 0 = Result Fact FaultKind in ◌≡◌ {A = A} (Ok a) (Ok b) → a ≡ b
 ok-same a b h = cc
 
-made : (n : ℕ) (key : Key) (slots : Result (ℕ × ℕ) FaultKind) (value : Result Value FaultKind) (fact : Fact) → fact_with n key slots value ≡ Ok fact → IsMadeOf key value fact
-unfolding group_of
-made n key (Ok s) (Ok v) fact e = record { group = ap group_of (sym (ok-same _ _ e)); made = ap (λ f. Ok f.value) (ok-same _ _ e) }
-made n key (Ok s) (Err f) fact e = absurd (cc)
-made n key (Err f) value fact e = absurd (cc)
+pub made : (n : ℕ) (key : Key) (word : List ℕ) (slots : Result (ℕ × ℕ) FaultKind) (value : Result Value FaultKind) (fact : Fact) → slots_of key.place (key.first, key.last) word ≡ slots → fact_with n key slots value ≡ Ok fact → IsMadeOf key word value fact
+made n key word (Ok s) (Ok v) fact at e =
+    let same = ok-same _ _ e in
+    record {
+      group = ap (λ f. f.group) (sym same);
+      slots = at ∙ ap (λ f. Ok (f.first, f.last)) same;
+      told = ap (λ f. f.told) (sym same) ∙ ap (λ f. told_by key.only f.value) same;
+      made = ap (λ f. Ok f.value) same;
+    }
+made n key word (Ok s) (Err f) fact at e = absurd (cc)
+made n key word (Err f) value fact at e = absurd (cc)
 
 -- what a fact is made of
 pub record IsFrom (keys : List Key) (fact : Fact) : Type 0 where
   pub key : Key
+  pub word : List ℕ
   pub words : List (List ℕ)
   pub found : (q : Key → Bool) × (find q keys ≡ Some key)
-  pub made_of : IsMadeOf key (value_of key.form words) fact
+  pub made_of : IsMadeOf key word (value_of key.form words) fact
 
 from-key : (keys : List Key) (q : Key → Bool) (n : ℕ) (words value : List (List ℕ)) (o : Option Key) (fact : Fact) → find q keys ≡ o → given_in None n words value o ≡ Ok fact → IsFrom keys fact
 from-key keys q n words value None fact f e = absurd (cc)
 from-key keys q n words value (Some key) fact f e =
-    record { key = key; words = value; found = (q, f); made_of = made n key (slots_of key.place (key.first, key.last) (word_in_place key.words words)) (value_of key.form value) fact e }
+    record { key = key; word = word_in_place key.words words; words = value; found = (q, f); made_of = made n key (word_in_place key.words words) (slots_of key.place (key.first, key.last) (word_in_place key.words words)) (value_of key.form value) fact refl e }
 
-given-from : (head : Head) (fact : Fact) → IsGiven head fact → IsFrom (keys_of head) fact
+pub given-from : (head : Head) (fact : Fact) → IsGiven head fact → IsFrom (keys_of head) fact
 unfolding given
 given-from head fact (n, words, value, e) =
     from-key (keys_of head) (λ key. fits key.words words) n words value (find (λ key. fits key.words words) (keys_of head)) fact refl e
 
 -- a number in its range
-number-ok : (least most : ℕ) (o : Option ℕ) (n : ℕ) → in_range least most o ≡ Ok n → (least ≤ n) × (n ≤ most)
+pub number-ok : (least most : ℕ) (o : Option ℕ) (n : ℕ) → in_range least most o ≡ Ok n → (least ≤ n) × (n ≤ most)
 number-ok least most None n e = absurd (cc)
 number-ok least most (Some k) n e =
     elim (nat_le least k && nat_le k most) as (λ t. (nat_le least k && nat_le k most) ≡ t → (let A : Type 0 = Result ℕ FaultKind in ◌≡◌ {A = A} (cond t (Ok k) (Err faults.OutOfRange)) (Ok n)) → (least ≤ n) × (n ≤ most)) [
@@ -120,7 +125,7 @@ number-word least most words n e =
       | false ↦ λ h. absurd (cc)
     ] e
 
-form-number : (least most : ℕ) (form : Form) (words : List (List ℕ)) (v : Value) → is_number_form least most form ≡ true → value_of form words ≡ Ok v → IsNumberIn least most v
+pub form-number : (least most : ℕ) (form : Form) (words : List (List ℕ)) (v : Value) → is_number_form least most form ≡ true → value_of form words ≡ Ok v → IsNumberIn least most v
 unfolding value_of
 form-number least most (table.Number l m) words v h e =
     let parts = and_parts (l == least) (m == most) h in

@@ -37,6 +37,7 @@ keeps_kind (Some mode) facts =
     else true)
 keeps_kind None facts = true
 
+-- a section keeps the ranges across its keys
 abbrev pub keeps_ranges : Head → List Fact → Bool
 keeps_ranges (heads.SubportKind n) facts = keeps_period facts
 keeps_ranges (heads.PipeKind n) facts = keeps_period facts

@@ -33,10 +33,12 @@ keys_of heads.Red = []
 abbrev pub word_in_place : List (List ℕ) → List (List ℕ) → List ℕ
 word_in_place pattern words = word_at words (position_or_len (λ p. length p == 0) pattern)
 
+-- a range whose ends are in order and within a limit
 abbrev pub range_in : ℕ → Option (ℕ × ℕ) → Result (ℕ × ℕ) FaultKind
 range_in most (Some range) = if nat_le range.0 range.1 && nat_le range.1 most then Ok range else Err OutOfRange
 range_in most None = Err BadNumber
 
+-- a number as a range
 abbrev pub twice_that : Result ℕ FaultKind → Result (ℕ × ℕ) FaultKind
 twice_that (Ok n) = Ok (n, n)
 twice_that (Err fault) = Err fault
@@ -81,6 +83,7 @@ abbrev pub given_by : ℕ → List (List ℕ) → List (List ℕ) → Key → Re
 given_by line words value key =
     fact_with line key (slots_of key.place (key.first, key.last) (word_in_place key.words words)) (value_of key.form value)
 
+-- what a line gives by the key that its words fit, if that key is listed in this form or kind
 abbrev pub given_in : Option ℕ → ℕ → List (List ℕ) → List (List ℕ) → Option Key → Result Fact FaultKind
 given_in mode line words value (Some key) = if is_listed key.only mode then given_by line words value key else Err UnknownKey
 given_in mode line words value None = Err UnknownKey
@@ -102,6 +105,7 @@ mode_of (fact ∷ facts) = or_else fact.told (mode_of facts)
 abbrev pub overlaps : Fact → Fact → Bool
 overlaps a b = a.group == b.group && nat_le a.first b.last && nat_le b.first a.last
 
+-- a fact that gives no slot which an earlier one gives
 abbrev pub unless_twice : List Fact → Result Fact FaultKind → Result Fact FaultKind
 unless_twice earlier (Ok fact) = if list_any (overlaps fact) earlier then Err Twice else Ok fact
 unless_twice earlier (Err fault) = Err fault

@@ -16,18 +16,22 @@ fits (p ∷ ps) (w ∷ ws) = (length p == 0 || bytes_eq p w) && fits ps ws
 fits [] (w ∷ ws) = false
 fits (p ∷ ps) [] = false
 
+-- a number up to a limit
 abbrev pub number_at_most : ℕ → List ℕ → Result ℕ FaultKind
 number_at_most most word = in_range 0 most (number_of word)
 
+-- a head by its number
 abbrev pub numbered : (ℕ → Head) → Result ℕ FaultKind → Result Head FaultKind
 numbered make (Ok n) = Ok (make n)
 numbered make (Err fault) = Err fault
 
+-- a subport by two numbers
 abbrev pub subport_head : Option ℕ → Option ℕ → Result Head FaultKind
 subport_head (Some port) (Some subport) = Ok (heads.Subport port subport)
 subport_head (Some port) None = Err BadNumber
 subport_head None subport = Err BadNumber
 
+-- a meter by its name
 abbrev pub meter_head : Option Name → Result Head FaultKind
 meter_head (Some name) = Ok (heads.Meter name)
 meter_head None = Err BadNumber

@@ -1,5 +1,5 @@
 -- Every fact of a section gives the value of one of its keys, within that key's range.
-use Rattle.std.specs.Prelude.{◌≡◌, ◌==◌, ℕ, ◌≤◌, Bool, true, false, not, ◌&&◌, ◌||◌, List, [], ◌∷◌, Option, None, Some, Result, Ok, Err}
+use Rattle.std.specs.Prelude.{◌≡◌, ◌==◌, ℕ, ◌≤◌, Bool, false, not, ◌&&◌, ◌||◌, List, [], ◌∷◌, None, Ok}
 use Rattle.std.specs.List.{list_all}
 use Rattle.qos_profile.specs.declared.value.Value.{Value}
 use Rattle.qos_profile.specs.declared.value.Value.TheVariants as values

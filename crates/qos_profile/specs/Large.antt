@@ -14,6 +14,7 @@ use Rattle.qos_profile.specs.Lookups.{value_at, number_at, facts_at}
 abbrev pub pipe_room : List ℕ → ℕ
 pipe_room sizes = sum_by (min 65536) sizes + 3 * min 65536 (slice_index sizes 12)
 
+-- the packets of a pipe's queues by their sizes
 abbrev pub room_with : Option Value → ℕ
 room_with (Some (values.Sizes sizes)) = pipe_room sizes
 room_with _ = 0
@@ -27,9 +28,11 @@ pipes_in _ facts = 0
 abbrev pub room_in : Section → ℕ
 room_in s = pipes_in s.head s.facts * room_with (value_at s.facts 2 0)
 
+-- the packets that all queues hold
 abbrev pub queue_total : List Section → ℕ
 queue_total sections = sum_by room_in sections
 
+-- how many pipes there are
 abbrev pub pipe_total : List Section → ℕ
 pipe_total sections = sum_by (λ s. pipes_in s.head s.facts) sections
 
@@ -37,10 +40,12 @@ pipe_total sections = sum_by (λ s. pipes_in s.head s.facts) sections
 abbrev pub slot_total : List Fact → ℕ
 slot_total facts = min 1048576 (number_at facts 0 0 65536) * min 262144 (number_at facts 1 0 2048)
 
+-- a section is a meter, or none
 abbrev pub meters_in : Head → ℕ
 meters_in (heads.Meter name) = 1
 meters_in _ = 0
 
+-- how many meters there are
 abbrev pub meter_total : List Section → ℕ
 meter_total sections = sum_by (λ s. meters_in s.head) sections
 
@@ -53,6 +58,7 @@ first_above queues pipes slots meters =
     else (if nat_lt 64 meters then Some meters
     else None)))
 
+-- the first total of the sections that is too large
 unfoldable pub too_large : List Section → Option ℕ
 too_large sections =
     first_above (queue_total sections) (pipe_total sections) (slot_total (facts_at sections heads.Pool)) (meter_total sections)

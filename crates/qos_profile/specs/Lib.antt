@@ -12,3 +12,10 @@ pub mod Across
 pub mod Large
 pub mod Faults
 pub mod Kept
+pub mod Planned
+pub mod Fits
+pub mod Printed
+pub mod Forms
+pub mod OneAnswer
+pub mod Known
+pub mod Taken

@@ -25,6 +25,7 @@ has facts group slot = list_any (covers group slot) facts
 abbrev pub has_all : List Fact → ℕ → ℕ → ℕ → Bool
 has_all facts group first count = list_all (has facts group) (range_with_len first count)
 
+-- a value that is a number, or another
 abbrev pub number_or : ℕ → Option Value → ℕ
 number_or other (Some (values.Number n)) = n
 number_or other _ = other
@@ -37,6 +38,7 @@ number_at facts group slot other = number_or other (value_at facts group slot)
 abbrev pub is_there : List Section → Head → Bool
 is_there sections head = list_any (λ s. same_head s.head head) sections
 
+-- the facts of a section, if there is one
 abbrev pub facts_or_none : Option Section → List Fact
 facts_or_none (Some s) = s.facts
 facts_or_none None = []

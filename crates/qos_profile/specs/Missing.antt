@@ -24,13 +24,16 @@ abbrev pub has_other_rate : Option ℕ → List Fact → Bool
 has_other_rate (Some mode) facts = mode == 0 || (has facts 3 0 && has facts 3 2)
 has_other_rate None facts = true
 
+-- a meter has its kind, its rates and its sizes
 abbrev pub has_meter : List Fact → Bool
 has_meter facts =
     has facts 0 0 && has facts 2 0 && has facts 2 2 && has_other_rate (mode_of facts) facts && has facts 4 0 && has facts 5 0
 
+-- a subport has its profile, its pipes, its sizes, and a line for each pipe
 abbrev pub has_subport : List Fact → Bool
 has_subport facts = has facts 0 0 && has facts 1 0 && has facts 2 0 && has_all facts 3 0 (number_at facts 1 0 0)
 
+-- a rule has its port, its subport, its pipe and its code
 abbrev pub has_rule : List Fact → Bool
 has_rule facts = has facts 5 0 && has facts 6 0 && has facts 7 0 && has facts 8 0
 

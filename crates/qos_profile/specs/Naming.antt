@@ -17,6 +17,7 @@ subports_of sections port = number_at (facts_at sections (heads.Port port)) 1 0 
 abbrev pub pipes_of : List Section → ℕ → ℕ → ℕ
 pipes_of sections port subport = number_at (facts_at sections (heads.Subport port subport)) 1 0 0
 
+-- a subport is below those of its port
 abbrev pub is_subport : List Section → ℕ → ℕ → Bool
 is_subport sections port subport = nat_lt subport (subports_of sections port)
 
@@ -31,6 +32,7 @@ names_in_subport sections facts fact _ = true
 abbrev pub port_of_rule : List Fact → ℕ
 port_of_rule facts = number_at facts 5 0 0
 
+-- the subport that a rule names
 abbrev pub subport_of_rule : List Fact → ℕ
 subport_of_rule facts = number_at facts 6 0 0
 
@@ -67,6 +69,7 @@ unnamed_in sections s =
     then option_map (λ fact. fact.line) (find (λ fact. not (names_of_fact sections s.head s.facts fact)) s.facts)
     else Some s.line
 
+-- a line, or the next
 abbrev pub or_next : Option ℕ → Option ℕ → Option ℕ
 or_next (Some line) next = Some line
 or_next None next = next
@@ -76,5 +79,6 @@ abbrev pub unnamed_among : List Section → List Section → Option ℕ
 unnamed_among all [] = None
 unnamed_among all (s ∷ sections) = or_next (unnamed_in all s) (unnamed_among all sections)
 
+-- the first line at which a name is not there
 unfoldable pub unnamed_line : List Section → Option ℕ
 unnamed_line sections = unnamed_among sections sections

@@ -3,6 +3,7 @@ use Rattle.std.specs.Prelude.{◌≡◌, ◌-◌, List, [], ◌∷◌, ◌++◌,
 use Rattle.qos_profile.specs.declared.fact.Fact.{Fact}
 use Rattle.qos_profile.specs.declared.section.Section.{Section}
 
+-- a section with one more fact
 abbrev pub and_fact : Section → Fact → Section
 and_fact s fact = record { line = s.line; head = s.head; facts = s.facts ++ fact ∷ [] }
 

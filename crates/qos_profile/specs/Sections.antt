@@ -14,6 +14,7 @@ use Rattle.qos_profile.specs.declared.section.Section.{Section}
 use Rattle.qos_profile.specs.Heads.{head_of}
 use Rattle.qos_profile.specs.Facts.{keys_of, given, fact_in}
 
+-- a line that begins no section
 abbrev pub is_no_head : Line → Bool
 is_no_head (HeadLine words) = false
 is_no_head NotText = true
@@ -21,6 +22,7 @@ is_no_head Blank = true
 is_no_head (Entry words value) = true
 is_no_head Neither = true
 
+-- a fact, or none
 abbrev pub or_none : Result Fact FaultKind → List Fact
 or_none (Ok fact) = fact ∷ []
 or_none (Err fault) = []
@@ -76,14 +78,17 @@ same_head (heads.Meter a) (heads.Meter b) = a.length == b.length && bytes_eq a.b
 same_head (heads.Rule n) (heads.Rule m) = n == m
 same_head _ _ = false
 
+-- the fault of a head after these sections: its own, or a section given twice
 abbrev pub fault_of_head : List Section → Result Head FaultKind → Option FaultKind
 fault_of_head sections (Ok head) = if list_any (λ s. same_head s.head head) sections then Some Twice else None
 fault_of_head sections (Err fault) = Some fault
 
+-- the fault of an answer, if it is one
 abbrev pub fault_of : {X : Type 0} → Result X FaultKind → Option FaultKind
 fault_of (Ok x) = None
 fault_of (Err fault) = Some fault
 
+-- a section that is skipped
 abbrev pub is_red : Head → Bool
 is_red heads.Red = true
 is_red _ = false

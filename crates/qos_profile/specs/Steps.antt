@@ -1,7 +1,6 @@
 -- What one more line does to the sections before it. The program goes line by line; that this agrees with the sections of all
 -- lines is proved.
 use Rattle.std.specs.Prelude.{◌≡◌, ℕ, List, [], ◌∷◌, ◌++◌, map, None, Some, Result, Ok, Err}
-use Rattle.std.specs.Global.{Vec}
 use Rattle.std.specs.Str.Lines.{lines}
 use Rattle.profile_lines.specs.Lines.{Line, NotText, Blank, Head as HeadLine, Entry, Neither, line_of}
 use Rattle.qos_profile.specs.declared.fault.ProfileError.{ProfileError}
@@ -45,11 +44,6 @@ abbrev pub ReadsSections : List Line → Result (List Section) ProfileError → 
 ReadsSections lines (Ok sections) = (first_fault [] lines ≡ None) × (sections ≡ sections_of 1 lines)
 ReadsSections lines (Err (errors.Fault fault)) = (first_fault [] lines ≡ Some (fault.line, fault.kind)) × (fault.total ≡ 0)
 ReadsSections lines (Err errors.NoMemory) = Unit {0}
-
--- a vector as its items
-abbrev pub items_of : Result (Vec Section) ProfileError → Result (List Section) ProfileError
-items_of (Ok sections) = Ok sections.items
-items_of (Err error) = Err error
 
 -- the error of a line that was not taken
 abbrev pub error_of : ℕ → Stop → ProfileError

@@ -37,6 +37,7 @@ pub record Key : Type 0 where
   pub only : Only
   pub form : Form
 
+-- the shape of the program's table, seen as a form
 abbrev pub form_view : Shape → Form
 form_view (shapes.Number least most) = Number least most
 form_view (shapes.Word words) = Word (map (λ w. w.now) words.now)
@@ -68,18 +69,23 @@ abbrev pub key_at : Only → Place → ℕ → List (List ℕ) → Form → Key
 key_at which place group words form =
     record { words = words; place = place; group = group; first = 0; last = 0; only = which; form = form }
 
+-- a key of one word
 abbrev pub one_word : List ℕ → List (List ℕ)
 one_word a = a ∷ []
 
+-- a key of two words
 abbrev pub two_words : List ℕ → List ℕ → List (List ℕ)
 two_words a b = a ∷ b ∷ []
 
+-- a key of a class or of a range of classes
 abbrev pub classes : List ℕ → List (List ℕ)
 classes what = codes "tc" ∷ [] ∷ what ∷ []
 
+-- the word `any`
 abbrev pub any : List (List ℕ)
 any = codes "any" ∷ []
 
+-- `[pool]`
 unfoldable pub pool_keys : List Key
 pool_keys =
     key 0 (one_word (codes "slots")) (Number 1 1048576)
@@ -112,6 +118,7 @@ subport_kind_keys =
     ∷ key 4 (two_words (codes "tc") (codes "period")) (Number 0 (2 ^ 64 - 1))
     ∷ []
 
+-- `[pipe profile N]`: the keys of a shaping, and two more
 unfoldable pub pipe_kind_keys : List Key
 pipe_kind_keys =
     key_in (only.In 0) 0 0 0 (two_words (codes "tb") (codes "credits")) (Number 1 (2 ^ 40))
@@ -125,6 +132,7 @@ pipe_kind_keys =
     ∷ key 6 (codes "tc" ∷ codes "12" ∷ codes "oversubscription" ∷ codes "weight" ∷ []) (Number 1 255)
     ∷ []
 
+-- `[subport P S]`
 unfoldable pub subport_keys : List Key
 subport_keys =
     key 0 (one_word (codes "profile")) (Number 0 (2 ^ 64 - 1))
@@ -134,6 +142,7 @@ subport_keys =
     ∷ key 4 (one_word (codes "oversubscription")) (Word (two_words (codes "no") (codes "yes")))
     ∷ []
 
+-- `[codes dscp]`
 unfoldable pub code_keys : List Key
 code_keys = key_at only.All (One 63) 0 (one_word []) Mark ∷ []
 
@@ -159,6 +168,7 @@ meter_keys =
     ∷ key 8 (one_word (codes "red")) (Word (two_words (codes "pass") (codes "drop")))
     ∷ []
 
+-- `[rule N]`
 unfoldable pub rule_keys : List Key
 rule_keys =
     key 0 (one_word (codes "input")) (NumberOr 0 15 any)

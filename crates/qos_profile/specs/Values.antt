@@ -26,6 +26,7 @@ word_at words n = slice_index_or words n []
 abbrev pub number_in : ℕ → ℕ → List (List ℕ) → Result ℕ FaultKind
 number_in least most words = if length words == 1 then in_range least most (number_of (word_at words 0)) else Err BadNumber
 
+-- a number as a value
 abbrev pub as_number : Result ℕ FaultKind → Result Value FaultKind
 as_number (Ok n) = Ok (values.Number n)
 as_number (Err fault) = Err fault
@@ -42,6 +43,7 @@ place_among choices word = found_at (position_or_len (λ w. bytes_eq w word) cho
 abbrev pub choice_of : List (List ℕ) → List (List ℕ) → Option ℕ
 choice_of choices words = if length words == 1 then place_among choices (word_at words 0) else None
 
+-- a word that is found, or else another value
 abbrev pub as_word : Option ℕ → Result Value FaultKind → Result Value FaultKind
 as_word (Some n) other = Ok (values.Word n)
 as_word None other = other
@@ -50,12 +52,15 @@ as_word None other = other
 abbrev pub number_or_zero : List ℕ → ℕ
 number_or_zero word = unwrap_or (number_of word) 0
 
+-- a number is within limits
 abbrev pub is_within : ℕ → ℕ → ℕ → Bool
 is_within least most n = nat_le least n && nat_le n most
 
+-- so many words, each a number
 abbrev pub are_numbers : ℕ → List (List ℕ) → Bool
 are_numbers count words = length words == count && list_all (λ w. is_some (number_of w)) words
 
+-- each number is within limits
 abbrev pub are_within : ℕ → ℕ → List (List ℕ) → Bool
 are_within least most words = list_all (λ w. is_within least most (number_or_zero w)) words
 
@@ -66,10 +71,12 @@ numbers_in count least most words =
     then (if are_within least most words then Ok (map number_or_zero words) else Err OutOfRange)
     else Err BadNumber
 
+-- queue sizes as a value
 abbrev pub as_sizes : Result (List ℕ) FaultKind → Result Value FaultKind
 as_sizes (Ok ns) = Ok (values.Sizes ns)
 as_sizes (Err fault) = Err fault
 
+-- weights as a value
 abbrev pub as_weights : Result (List ℕ) FaultKind → Result Value FaultKind
 as_weights (Ok ns) = Ok (values.Weights ns)
 as_weights (Err fault) = Err fault
@@ -86,6 +93,7 @@ masked address n = address / 2 ^ (32 - n) * 2 ^ (32 - n)
 abbrev pub front : ℕ → List ℕ → List ℕ
 front mark bytes = before_first (λ b. b == mark) bytes
 
+-- what stands after the first of these bytes
 abbrev pub rest : ℕ → List ℕ → List ℕ
 rest mark bytes = after_first (λ b. b == mark) bytes
 
@@ -101,6 +109,7 @@ prefix_with (Some a) (Some b) None d bits = Err BadNumber
 prefix_with (Some a) None c d bits = Err BadNumber
 prefix_with None b c d bits = Err BadNumber
 
+-- the words of four octets and a length
 abbrev pub prefix_from : List ℕ → List ℕ → List ℕ → List ℕ → List ℕ → Result Value FaultKind
 prefix_from a b c d bits = prefix_with (number_of a) (number_of b) (number_of c) (number_of d) (number_of bits)
 
@@ -113,15 +122,18 @@ prefix_at address bits =
 abbrev pub prefix_of : List ℕ → Result Value FaultKind
 prefix_of word = prefix_at (front 47 word) (rest 47 word)
 
+-- `any`, or a prefix
 unfoldable pub prefix_or_any : List (List ℕ) → Result Value FaultKind
 prefix_or_any words =
     if length words == 1
     then (if bytes_eq (word_at words 0) (codes "any") then Ok (values.Word 0) else prefix_of (word_at words 0))
     else Err BadNumber
 
+-- the words of the colours
 abbrev pub colours : List (List ℕ)
 colours = codes "green" ∷ codes "yellow" ∷ codes "red" ∷ []
 
+-- a colour by the place of its word
 abbrev pub colour_at : ℕ → Colour
 colour_at n = if n == 0 then Green else (if n == 1 then Yellow else Red)
 
@@ -129,6 +141,7 @@ colour_at n = if n == 0 then Green else (if n == 1 then Yellow else Red)
 abbrev pub is_place : ℕ → ℕ → Bool
 is_place class queue = (nat_lt class 12 && queue == 0) || (class == 12 && nat_le queue 3)
 
+-- a class, a queue and a colour, which there are
 abbrev pub entry_with : Option ℕ → Option ℕ → Option ℕ → Result Value FaultKind
 entry_with (Some class) (Some queue) (Some colour) =
     if is_place class queue
@@ -142,6 +155,7 @@ entry_with None queue colour = Err BadNumber
 abbrev pub entry_at : List ℕ → List ℕ → List ℕ → Result Value FaultKind
 entry_at class queue colour = entry_with (number_of class) (number_of queue) (place_among colours colour)
 
+-- `C Q COLOUR` in three words
 unfoldable pub entry_of : List (List ℕ) → Result Value FaultKind
 entry_of words = if length words == 3 then entry_at (word_at words 0) (word_at words 1) (word_at words 2) else Err BadNumber
 
@@ -162,14 +176,17 @@ is_name_byte b = is_within 97 122 b || is_within 48 57 b || b == 95
 abbrev pub padded : List ℕ → Name
 padded word = record { bytes = word ++ replicate (32 - length word) 0; length = length word }
 
+-- a word that is a name
 unfoldable pub name_of : List ℕ → Option Name
 name_of word =
     if nat_le 1 (length word) && nat_le (length word) 32 && list_all is_name_byte word then Some (padded word) else None
 
+-- a name as a value
 abbrev pub as_name : Option Name → Result Value FaultKind
 as_name (Some name) = Ok (values.Name name)
 as_name None = Err BadNumber
 
+-- one word that is a name
 abbrev pub one_name : List (List ℕ) → Result Value FaultKind
 one_name words = if length words == 1 then as_name (name_of (word_at words 0)) else Err BadNumber
 

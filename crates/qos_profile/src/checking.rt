@@ -1,14 +1,18 @@
-//! The first fault of a text.
-ghost use Rattle.std.specs.Prelude.{◌≡◌, ◌≤◌, length};
-ghost use Rattle.qos_profile.specs.Faults.{at_line, with_total, first_of, fault_of_sections, fault_of_text, Answers};
+//! A text to its profile, or to its first fault.
+ghost use Rattle.std.specs.Prelude.{◌≡◌, ◌≤◌, length, IfOk};
+ghost use Rattle.qos_profile.specs.Faults.{at_line, with_total, first_of, fault_of_sections, fault_of_text, AreClear, Answers};
+ghost use Rattle.qos_profile.specs.Planned.{plan_of, profile_of};
 
 use crate::across::across_line;
+use crate::build::plan::plan;
 use crate::fault::{FaultKind, ProfileError, ProfileFault};
 use crate::large::too_large;
 use crate::missing::missing_line;
 use crate::naming::unnamed_line;
 use crate::reading::read_sections;
 use crate::section::Section;
+use profile_plan::Profile;
+use qos_base::NoMemory;
 use std::alloc::Global;
 
 /// The longest text, in bytes.
@@ -69,29 +73,35 @@ fn fault_of_sections(sections: &[Section]) -> Option<ProfileFault>
     )
 }
 
-/// Whether a text is a profile: its first fault, if it has any.
+/// The profile that a text says, or its first fault.
 ///
-/// In this order: a text above [`MAX_TEXT`] bytes; then the first line at fault, with the
+/// The fault is found in this order: a text above [`MAX_TEXT`] bytes; then the first line at fault, with the
 /// fault of the least number there; then what is missing, a name that is not there and a range across keys,
 /// each at the least line; then what is too large in the whole.
-pub fn check_profile(alloc: Global, text: &[u8]) -> Result<(), ProfileError>
-    ensures { Answers result (fault_of_text text.now) }
+pub fn read_profile(alloc: Global, text: &[u8]) -> Result<Profile, ProfileError>
+    ensures fault { Answers result (fault_of_text text.now) }
+    ensures profile { IfOk result (λ profile. profile ≡ profile_of text.now) }
 {
     if text.len() > MAX_TEXT {
         return Err(ProfileError::Fault(with_total(text.len() as u64)));
     }
     match read_sections(alloc, text) {
-        Ok(sections) => answer(sections.as_slice()),
+        Ok(sections) => answer(alloc, sections.as_slice()),
         Err(error) => Err(error),
     }
 }
 
-fn answer(sections: &[Section]) -> Result<(), ProfileError>
-    requires { length sections.now ≤ 1048576 }
-    ensures { Answers result (fault_of_sections sections.now) }
+fn answer(alloc: Global, sections: &[Section]) -> Result<Profile, ProfileError>
+    requires few { length sections.now ≤ 1048576 }
+    requires clear { AreClear sections.now }
+    ensures fault { Answers result (fault_of_sections sections.now) }
+    ensures profile { IfOk result (λ profile. profile ≡ plan_of sections.now) }
 {
     match fault_of_sections(sections) {
         Some(fault) => Err(ProfileError::Fault(fault)),
-        None => Ok(()),
+        None => match plan(alloc, sections) {
+            Ok(profile) => Ok(profile),
+            Err(NoMemory) => Err(ProfileError::NoMemory),
+        },
     }
 }

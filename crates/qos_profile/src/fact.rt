@@ -1,12 +1,12 @@
 //! What a key line gives in its section, or its fault.
 ghost use Rattle.std.specs.Prelude.{◌≡◌, map, Err, Ok};
-ghost use Rattle.std.specs.List.{list_any};
 ghost use Rattle.qos_profile.specs.Table.{Key, row_view};
-ghost use Rattle.qos_profile.specs.Facts.{keys_of, slots_of, range_in, twice_that, told_by, is_listed, worse, fact_with, given_by, given, mode_of, overlaps, unless_twice, begins_well, fact_in};
+ghost use Rattle.qos_profile.specs.Facts.{keys_of, slots_of, range_in, twice_that, told_by, is_listed, worse, fact_with, given_by, given, mode_of, unless_twice, begins_well, fact_in};
 
 use crate::fault::FaultKind;
 use crate::head::{Head, number_at_most};
 use crate::matching::{fits, word_in_place};
+use crate::section::Facts;
 use crate::table::*;
 use crate::value::{Value, read_value};
 use profile_lines::read_range;
@@ -177,18 +177,6 @@ pub(crate) fn mode_of(facts: &[Fact]) -> Option<usize>
     None
 }
 
-fn overlaps(a: &Fact, b: &Fact) -> bool
-    ensures { result ≡ overlaps a.now b.now }
-{
-    a.group == b.group && a.first <= b.last && b.first <= a.last
-}
-
-fn overlaps_any(fact: &Fact, earlier: &[Fact]) -> bool
-    ensures { result ≡ list_any (overlaps fact.now) earlier.now }
-{
-    earlier.iter().any(|other| overlaps(fact, other))
-}
-
 fn begins_well(head: &Head, earlier: &[Fact], words: &[&[u8]]) -> bool
     ensures { result ≡ begins_well head.now earlier.now (map (λ w. w.now) words.now) }
 {
@@ -202,19 +190,19 @@ fn begins_well(head: &Head, earlier: &[Fact], words: &[&[u8]]) -> bool
 #[tactic(auto, unfolding(crate::specs::Facts::fact_in))]
 pub(crate) fn read_fact(
     head: &Head,
-    earlier: &[Fact],
+    earlier: &Facts,
     line: u32,
     words: &[&[u8]],
     value: &[&[u8]],
 ) -> Result<Fact, FaultKind>
     ensures { result ≡ fact_in head.now earlier.now line (map (λ w. w.now) words.now) (map (λ w. w.now) value.now) }
 {
-    if !begins_well(head, earlier, words) {
+    if !begins_well(head, earlier.as_slice(), words) {
         return Err(FaultKind::BadLine);
     }
-    match read_given(rows_of(head), mode_of(earlier), line, words, value) {
+    match read_given(rows_of(head), earlier.mode(), line, words, value) {
         Ok(fact) => {
-            if overlaps_any(&fact, earlier) {
+            if earlier.any_overlaps(&fact) {
                 Err(FaultKind::Twice)
             } else {
                 Ok(fact)

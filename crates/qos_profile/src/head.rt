@@ -1,6 +1,7 @@
 //! The heads of sections.
 ghost use Rattle.std.specs.Prelude.{◌≡◌, map};
 ghost use Rattle.qos_profile.specs.Values.{in_range};
+ghost use Rattle.qos_profile.specs.Sections.{is_red};
 ghost use Rattle.qos_profile.specs.Heads.{head_of, number_at_most, numbered, subport_head, meter_head};
 
 use crate::fault::FaultKind;
@@ -10,7 +11,7 @@ use crate::value::in_range;
 use profile_lines::read_number;
 
 /// Which section it is.
-#[derive(Clone, Copy, Debug)]
+#[derive(Clone, Copy, Debug, PartialEq, Eq, Hash)]
 pub(crate) enum Head {
     Pool,
     Port(u64),
@@ -124,4 +125,11 @@ fn rule_head(number: Result<u64, FaultKind>) -> Result<Head, FaultKind>
         Ok(n) => Ok(Head::Rule(n)),
         Err(fault) => Err(fault),
     }
+}
+
+/// Whether it is the head of a section that is skipped.
+pub(crate) fn is_red(head: &Head) -> bool
+    ensures { result ≡ is_red head.now }
+{
+    matches!(head, Head::Red)
 }

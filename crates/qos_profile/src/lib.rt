@@ -1,28 +1,34 @@
-//! The profile text: whether a text is a profile, with the first fault of one that is none.
+//! The profile text: the profile that a text says, or its first fault.
 //!
-//! It stands on `profile_lines` for the lines of a text and on `profile_plan` for what a profile says.
+//! It stands on `profile_lines` for the lines of a text, on `profile_plan` for what a profile says and on
+//! `profile_print` for its canonical text, which it gives out again.
 #![tactic(auto)]
 
 mod across;
+mod build;
 mod checking;
 mod fact;
 mod fault;
 mod head;
 mod large;
 pub mod laws;
+mod list;
 mod lookup;
 mod matching;
 mod missing;
 mod name;
 mod naming;
+mod outline;
 mod reading;
 mod section;
 mod sections;
 mod table;
 mod value;
 
-pub use checking::{MAX_TEXT, check_profile};
+pub use checking::{MAX_TEXT, read_profile};
 pub use fault::{FaultKind, ProfileError, ProfileFault};
-
-#[cfg(test)]
-mod tests;
+pub use profile_plan::{
+    CLASSES, CodeChoice, MeterKind, MeterPlan, MeterRate, PipeChoice, PipeKind, PoolPlan, PortPlan,
+    Prefix, Profile, Proto, Rates, RulePlan, Shaping, Span, SubportPlan, VlanTest, Whole,
+};
+pub use profile_print::profile_text;

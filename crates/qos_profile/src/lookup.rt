@@ -46,7 +46,7 @@ pub(crate) fn has_all(facts: &[Fact], group: u8, count: u64) -> bool
     true
 }
 
-fn number_or(other: u64, value: Option<Value>) -> u64
+pub(crate) fn number_or(other: u64, value: Option<Value>) -> u64
     ensures { result ≡ number_or other value }
 {
     match value {

@@ -85,7 +85,7 @@ fn is_complete(head: &Head, facts: &[Fact]) -> bool
     }
 }
 
-fn ports_to(head: &Head) -> u64
+pub(crate) fn ports_to(head: &Head) -> u64
     ensures { result ≡ ports_to head.now }
 {
     match head {

@@ -7,7 +7,7 @@ ghost use Rattle.qos_profile.specs.Values.{is_name_byte};
 pub(crate) const LONGEST: usize = 32;
 
 /// A name of 1 to 32 of the letters a to z, the digits and `_`; the bytes past its length are 0.
-#[derive(Clone, Copy, Debug)]
+#[derive(Clone, Copy, Debug, PartialEq, Eq, Hash)]
 pub(crate) struct Name {
     pub bytes: [u8; LONGEST],
     pub length: usize,

@@ -1,14 +1,14 @@
 //! A text to its sections, line by line.
 ghost use Rattle.std.specs.Prelude.{◌≡◌, ◌≤◌, map, length, IfOk};
 ghost use Rattle.profile_lines.specs.Lines.{line_of, Head as HeadLine, Entry, Neither};
-ghost use Rattle.qos_profile.specs.Sections.{fault_in, fault_of_neither, last_of, is_red};
-ghost use Rattle.qos_profile.specs.Steps.{Takes, ReadsSections, lines_of, items_of, error_of};
+ghost use Rattle.qos_profile.specs.Sections.{fault_in, fault_of_neither, last_of};
+ghost use Rattle.qos_profile.specs.Steps.{Takes, ReadsSections, lines_of, error_of};
 
 use crate::fact::read_fact;
 use crate::fault::{FaultKind, ProfileError, ProfileFault};
-use crate::head::{Head, read_head};
+use crate::head::{is_red, read_head};
+use crate::outline::Outline;
 use crate::section::{Facts, Section};
-use crate::sections::{add_fact, is_there};
 use profile_lines::{Line, read_line, split_line};
 use qos_base::NoMemory;
 use std::alloc::Global;
@@ -22,35 +22,36 @@ pub(crate) enum Stop {
 
 fn take_head(
     alloc: Global,
-    sections: &mut Vec<Section>,
+    sections: &mut Outline,
     number: u32,
     words: &[&[u8]],
 ) -> Result<(), Stop>
-    ensures { Takes sections.old.items sections.new.items number (HeadLine (map (λ w. w.now) words.now)) result }
+    ensures { Takes sections.old sections.new number (HeadLine (map (λ w. w.now) words.now)) result }
 {
     match read_head(words) {
         Ok(head) => {
-            if is_there(sections.as_slice(), &head) {
-                return Err(Stop::Fault(FaultKind::Twice));
-            }
             let section = Section {
                 line: number,
                 head,
                 facts: Facts::new(alloc),
             };
-            sections.push(section).map_err(|_| Stop::NoMemory)
+            match sections.begin(section) {
+                Ok(true) => Ok(()),
+                Ok(false) => Err(Stop::Fault(FaultKind::Twice)),
+                Err(NoMemory) => Err(Stop::NoMemory),
+            }
         }
         Err(fault) => Err(Stop::Fault(fault)),
     }
 }
 
 fn take_entry(
-    sections: &mut Vec<Section>,
+    sections: &mut Outline,
     number: u32,
     words: &[&[u8]],
     value: &[&[u8]],
 ) -> Result<(), Stop>
-    ensures { Takes sections.old.items sections.new.items number (Entry (map (λ w. w.now) words.now) (map (λ w. w.now) value.now)) result }
+    ensures { Takes sections.old sections.new number (Entry (map (λ w. w.now) words.now) (map (λ w. w.now) value.now)) result }
 {
     let Some(section) = sections.last() else {
         return Err(Stop::Fault(FaultKind::BadLine));
@@ -58,14 +59,8 @@ fn take_entry(
     if is_red(&section.head) {
         return Ok(());
     }
-    match read_fact(
-        &section.head,
-        section.facts.as_slice(),
-        number,
-        words,
-        value,
-    ) {
-        Ok(fact) => match add_fact(sections, fact) {
+    match read_fact(&section.head, &section.facts, number, words, value) {
+        Ok(fact) => match sections.add_fact(fact) {
             Ok(()) => Ok(()),
             Err(NoMemory) => Err(Stop::NoMemory),
         },
@@ -73,13 +68,7 @@ fn take_entry(
     }
 }
 
-fn is_red(head: &Head) -> bool
-    ensures { result ≡ is_red head.now }
-{
-    matches!(head, Head::Red)
-}
-
-fn take_neither(sections: &[Section]) -> Option<FaultKind>
+fn take_neither(sections: &Outline) -> Option<FaultKind>
     ensures { result ≡ fault_of_neither (last_of sections.now) }
 {
     let Some(section) = sections.last() else {
@@ -92,13 +81,8 @@ fn take_neither(sections: &[Section]) -> Option<FaultKind>
     }
 }
 
-fn take_line(
-    alloc: Global,
-    sections: &mut Vec<Section>,
-    number: u32,
-    line: &[u8],
-) -> Result<(), Stop>
-    ensures { Takes sections.old.items sections.new.items number (line_of line.now) result }
+fn take_line(alloc: Global, sections: &mut Outline, number: u32, line: &[u8]) -> Result<(), Stop>
+    ensures { Takes sections.old sections.new number (line_of line.now) result }
 {
     match read_line(alloc, line) {
         Err(NoMemory) => Err(Stop::NoMemory),
@@ -108,7 +92,7 @@ fn take_line(
         Ok(Line::Entry(words, value)) => {
             take_entry(sections, number, words.as_slice(), value.as_slice())
         }
-        Ok(Line::Neither) => match take_neither(sections.as_slice()) {
+        Ok(Line::Neither) => match take_neither(sections) {
             Some(fault) => Err(Stop::Fault(fault)),
             None => Ok(()),
         },
@@ -129,12 +113,12 @@ fn error_of(line: u32, stop: Stop) -> ProfileError
 }
 
 /// The sections of a text of at most 1,048,576 bytes, or its first fault of a line.
-pub(crate) fn read_sections(alloc: Global, text: &[u8]) -> Result<Vec<Section>, ProfileError>
+pub(crate) fn read_sections(alloc: Global, text: &[u8]) -> Result<Outline, ProfileError>
     requires { length text.now ≤ 1048576 }
-    ensures sections { ReadsSections (lines_of text.now) (items_of result) }
-    ensures few { IfOk result (λ sections. length sections.items ≤ 1048576) }
+    ensures sections { ReadsSections (lines_of text.now) result }
+    ensures few { IfOk result (λ sections. length sections ≤ 1048576) }
 {
-    let mut sections = Vec::new(alloc);
+    let mut sections = Outline::new(alloc);
     let mut rest = text;
     let mut number: u32 = 0;
     while !rest.is_empty() {

@@ -1,23 +1,10 @@
 //! What is done with the sections of a text.
-ghost use Rattle.std.specs.Prelude.{◌≡◌, ◌<◌, length, OnOk};
+ghost use Rattle.std.specs.Prelude.{◌≡◌};
 ghost use Rattle.qos_profile.specs.Sections.{same_head};
-ghost use Rattle.qos_profile.specs.Pushes.{PushesFact};
 ghost use Rattle.qos_profile.specs.Lookups.{is_there};
 
-use crate::fact::Fact;
 use crate::head::Head;
 use crate::section::Section;
-use qos_base::NoMemory;
-
-/// Adds a fact to the last section.
-pub(crate) fn add_fact(sections: &mut Vec<Section>, fact: Fact) -> Result<(), NoMemory>
-    requires { 0 < length sections.old.items }
-    ensures { OnOk result (PushesFact sections.old.items sections.new.items fact) }
-{
-    let place = sections.len() - 1;
-    let section = &mut sections[place];
-    section.facts.push(fact)
-}
 
 /// Whether two heads are the same. Each section `[red]` is its own.
 pub(crate) fn same_head(a: &Head, b: &Head) -> bool

@@ -4,7 +4,7 @@ use Rattle.qos_profile.proofs.Courses.{IsAt}
 use Rattle.qos_profile.proofs.reading.read_sections.Given as goal
 
 abbrev pub invariant-loop-rest : goal.invariant-loop-rest
-invariant-loop-rest l = (before : List Line) × IsAt before l.text l.rest l.number l.sections.items
+invariant-loop-rest l = (before : List Line) × IsAt before l.text l.rest l.number l.sections
 
 abbrev pub decreases-loop-rest : goal.decreases-loop-rest
 decreases-loop-rest l = length l.rest

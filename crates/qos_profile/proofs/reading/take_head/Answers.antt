@@ -1,11 +1,14 @@
-use Rattle.std.proofs.Common.{◌∙◌, sym, ap, cond, Some, None}
-use Rattle.std.specs.List.{list_any}
+-- qos_profile/proofs/reading/take_head/Answers.antt
+use Rattle.std.proofs.Common.{◌∙◌, sym, ap, subst, cond, Some, None, Ok}
 use Rattle.qos_profile.specs.declared.fault.FaultKind.TheVariants.{Twice}
-use Rattle.qos_profile.specs.Sections.{fault_of_head, same_head}
+use Rattle.qos_profile.specs.declared.section.Section.{Section}
+use Rattle.qos_profile.specs.Sections.{fault_of_head}
+use Rattle.qos_profile.specs.Known.{Begins}
 use Rattle.qos_profile.proofs.reading.take_head.Goals as goal
 
-pub returns-then-is_there : goal.returns-then-is_there
-returns-then-is_there c =
+pub returns-in-Ok-false : goal.returns-in-Ok-false
+returns-in-Ok-false c =
     let head = sym c.read_head.ensures ∙ c.in-Ok.is in
-    let test = ap (list_any (λ s. same_head s.head c.in-Ok.head)) (sym c.as_slice.ensures.value) ∙ sym c.is_there.ensures ∙ c.if-is_there.true in
-    ap (fault_of_head c.args.sections.now.items) head ∙ ap (λ t. cond t (Some Twice) None) test
+    let s : Section = record { line = c.args.number; head = c.in-Ok.head; facts = c.new.result } in
+    let test = subst (λ b. Begins c.args.sections.now c.begin.new.self s (Ok b)) c.in-Ok-false.field-0-test c.in-Ok-false.ensures in
+    ap (fault_of_head c.args.sections.now) head ∙ ap (λ t. cond t (Some Twice) None) test

@@ -1,0 +1,133 @@
+//! A port that is played step by step.
+use port_sched::PortSched;
+use qos_base::{Colour, Departure, Pkt, Steps};
+use qos_profile::read_profile;
+use std::fmt::Debug;
+use std::process::Abort;
+use std::sync::ledger::Ledger;
+
+/// The subport, the pipe and the queue of a packet.
+pub type Place = (u32, u32, u32);
+
+/// A step of a row. A packet is told by a number.
+#[derive(Clone, Copy, Debug)]
+pub enum Step<'a> {
+    /// A packet arrives at a place, with so many bytes, and joins the queue.
+    Joins(u32, Place, u32),
+    /// A packet arrives at a place, and is turned away.
+    TurnedAway(u32, Place, u32),
+    /// A dequeue at a moment, with so much room: the packets that it sends, each with its time, and port time after it.
+    Sends(u64, u32, &'a [(u32, u64)], u64),
+    /// These packets are left, in the order in which they are drained.
+    Left(&'a [u32]),
+}
+
+/// A profile, and what its port 0 does step by step.
+#[derive(Clone, Copy, Debug)]
+pub struct Row<'a> {
+    pub note: &'a str,
+    pub profile: &'a str,
+    pub steps: &'a [Step<'a>],
+}
+
+fn same<T: PartialEq + Debug>(rt: &impl Abort, value: &T, wanted: &T, note: &str) {
+    assert_eq!(rt; value, wanted, "{note}");
+}
+
+fn packet(name: u32, place: Place, wire: u32) -> Pkt {
+    let (subport, pipe, queue) = place;
+    Pkt {
+        input: 0,
+        index: name,
+        wire,
+        cap: wire,
+        stamp: 0,
+        port: 0,
+        subport,
+        pipe,
+        queue,
+        colour: Colour::Green,
+    }
+}
+
+fn port_of<R: Abort + AllocGlobal>(rt: &R, text: &str) -> PortSched<Pkt> {
+    let profile = read_profile(rt.alloc(), text.as_bytes()).expect(rt, "a profile");
+    assert!(rt; profile.ports.as_slice().len() > 0);
+    PortSched::new(rt.alloc(), &profile, 0).expect(rt, "memory")
+}
+
+fn arrives(rt: &impl Abort, port: &mut PortSched<Pkt>, packet: Pkt) -> Option<u32> {
+    assert!(rt; port.has_place(&packet));
+    port.arrive(packet).err().map(|full| full.parcel.index)
+}
+
+fn sends<L: Ledger>(
+    rt: &impl Abort,
+    port: &mut PortSched<Pkt>,
+    moment: u64,
+    room: u32,
+    out: &mut Vec<Departure<Pkt>>,
+    steps: &mut Steps<L>,
+) -> u32 {
+    out.clear();
+    assert!(rt; moment <= 1 << 62 && port.time() <= 1 << 62);
+    assert!(rt; room <= 256 && out.capacity() >= 256);
+    port.dequeue(moment, room, out, steps)
+}
+
+fn are_sent(rt: &impl Abort, out: &[Departure<Pkt>], wanted: &[(u32, u64)], note: &str) {
+    same(rt, &out.len(), &wanted.len(), note);
+    for (departure, (name, time)) in out.iter().zip(wanted) {
+        let seen = (departure.parcel.index, departure.time);
+        same(rt, &seen, &(*name, *time), note);
+    }
+}
+
+fn drain(rt: &impl Abort, port: &mut PortSched<Pkt>, names: &[u32], note: &str) {
+    same(rt, &port.queued(), &(names.len() as u64), note);
+    for name in names {
+        same(rt, &port.drain_out().map(|p| p.index), &Some(*name), note);
+    }
+    same(rt, &port.drain_out().map(|p| p.index), &None, note);
+    same(rt, &port.queued(), &0, note);
+}
+
+fn take_step<L: Ledger>(
+    rt: &impl Abort,
+    port: &mut PortSched<Pkt>,
+    step: &Step<'_>,
+    out: &mut Vec<Departure<Pkt>>,
+    steps: &mut Steps<L>,
+    note: &str,
+) {
+    match *step {
+        Step::Joins(name, place, wire) => {
+            same(
+                rt,
+                &arrives(rt, port, packet(name, place, wire)),
+                &None,
+                note,
+            );
+        }
+        Step::TurnedAway(name, place, wire) => {
+            let back = arrives(rt, port, packet(name, place, wire));
+            same(rt, &back, &Some(name), note);
+        }
+        Step::Sends(moment, room, wanted, time) => {
+            let sent = sends(rt, port, moment, room, out, steps);
+            same(rt, &(sent as usize), &wanted.len(), note);
+            are_sent(rt, out.as_slice(), wanted, note);
+            same(rt, &port.time(), &time, note);
+        }
+        Step::Left(names) => drain(rt, port, names, note),
+    }
+}
+
+/// Plays a row.
+pub fn play<R: Abort + AllocGlobal, L: Ledger>(rt: &R, row: &Row<'_>, steps: &mut Steps<L>) {
+    let mut port = port_of(rt, row.profile);
+    let mut out = Vec::with_capacity(rt.alloc(), 256).expect(rt, "memory");
+    for step in row.steps {
+        take_step(rt, &mut port, step, &mut out, steps, row.note);
+    }
+}

@@ -1,0 +1,4 @@
+pub mod Written
+pub mod Text
+pub mod View
+pub mod Plain
