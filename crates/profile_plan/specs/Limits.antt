@@ -1,5 +1,6 @@
 -- The limits of the parts of a profile, each on its own.
-use Rattle.std.specs.Prelude.{◌≡◌, ℕ, ◌+◌, ◌*◌, ◌-◌, ◌%◌, ◌^◌, ◌<◌, ◌≤◌, length, All}
+use Rattle.std.specs.Prelude.{◌≡◌, ◌==◌, ℕ, ◌+◌, ◌*◌, ◌-◌, ◌%◌, ◌^◌, ◌<◌, ◌≤◌, nat_le, Bool, true, ◌&&◌, ◌||◌, length, All}
+use Rattle.std.specs.List.{list_all}
 use Rattle.code_table.specs.Entry.{IsValid}
 use Rattle.profile_plan.specs.Meter.{periods_of, IsAtMost}
 use Rattle.profile_plan.specs.declared.port.PoolPlan.{PoolPlan}
@@ -73,9 +74,14 @@ IsLawful SrTcm m = (0 < m.cbs + m.other_size) × (m.other ≡ Periods 0 1)
 IsLawful TrTcm m = (0 < m.cbs) × (0 < m.other_size) × IsAtMost (periods_of m.cir) (periods_of m.other)
 IsLawful Rfc4115 m = Unit {0}
 
+-- the characters of a name: a to z, 0 to 9 and `_`
+abbrev pub is_name_byte : ℕ → Bool
+is_name_byte b = (nat_le 97 b && nat_le b 122) || (nat_le 48 b && nat_le b 57) || b == 95
+
 -- a meter
 pub record IsMeter (m : MeterPlan) : Type 0 where
   pub name : Within 1 32 (length m.name)
+  pub letters : list_all is_name_byte m.name ≡ true
   pub cir : IsMeterRate m.cir
   pub other : IsMeterRate m.other
   pub cbs : m.cbs ≤ 2 ^ 40

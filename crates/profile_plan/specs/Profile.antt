@@ -1,8 +1,9 @@
 -- A profile as contracts see it, and all its limits.
-use Rattle.std.specs.Prelude.{◌≡◌, ◌==◌, ℕ, ◌+◌, ◌*◌, ◌<◌, ◌≤◌, List, length, map, sum, find, slice_get, slice_index, All, Option, IsSome, IfSome}
-use Rattle.std.specs.List.{sum_by}
+use Rattle.std.specs.Prelude.{◌≡◌, ◌==◌, ℕ, ◌+◌, ◌*◌, ◌<◌, ◌≤◌, Bool, true, not, ◌&&◌, List, [], ◌∷◌, length, map, sum, find, slice_get, slice_index, All, Option, IsSome, IfSome}
+use Rattle.std.specs.List.{sum_by, list_all}
 use Rattle.std.specs.List.Sorted.{IsStrictlyIncreasing}
 use Rattle.std.specs.Option.{option_map, option_and_then}
+use Rattle.std.specs.Str.{bytes_eq}
 use Rattle.code_table.specs.declared.entry.Entry.{Entry}
 use Rattle.code_table.specs.Entry.{IsValid}
 use Rattle.qos_base.specs.Time.{IsLineRate}
@@ -92,6 +93,11 @@ pub record IsRule (ports : List PortPlan) (meters : List MeterPlan) (r : RulePla
   pub code : IsCode r.code
   pub meter : IfSome r.meter (λ n. n < length meters)
 
+-- no two meters have one name
+abbrev pub have_names_apart : List MeterPlan → Bool
+have_names_apart [] = true
+have_names_apart (m ∷ ms) = list_all (λ other. not (bytes_eq m.name other.name)) ms && have_names_apart ms
+
 -- all limits of a profile
 pub record KeepsLimits (p : Plan) : Type 0 where
   pub pool : IsPool p.pool
@@ -107,5 +113,6 @@ pub record KeepsLimits (p : Plan) : Type 0 where
   pub code_count : length p.codes ≡ 64
   pub meters : All IsMeter p.meters
   pub meter_count : length p.meters ≤ 64
+  pub meter_names : have_names_apart p.meters ≡ true
   pub rules : All (IsRule p.ports p.meters) p.rules
   pub rules_order : IsStrictlyIncreasing (map (λ rule. rule.number) p.rules)

@@ -19,7 +19,7 @@ pub struct Profile {
     pub pipe_kinds: Sequence<PipeKind>,
     /// The entries of the code points.
     pub codes: CodeTable<64>,
-    /// The meters, in the order of the text; at most 64.
+    /// The meters, in the order of the text; at most 64, no two of one name.
     pub meters: Sequence<MeterPlan>,
     /// The rules, by number.
     pub rules: Sequence<RulePlan>,

@@ -10,7 +10,7 @@ use Rattle.std.proofs.lemmas.Slice.Eq.{bytes_eq-Decides}
 use Rattle.profile_plan.specs.declared.port.PortPlan.{PortPlan}
 use Rattle.profile_plan.specs.declared.port.SubportPlan.{SubportPlan}
 use Rattle.profile_plan.specs.declared.meter.MeterPlan.{MeterPlan}
-use Rattle.profile_plan.specs.Profile.{Plan, KeepsLimits}
+use Rattle.profile_plan.specs.Profile.{Plan, KeepsLimits, have_names_apart}
 use Rattle.profile_print.specs.Written.{each, each_from}
 use Rattle.qos_profile.specs.declared.name.Name.{Name}
 use Rattle.qos_profile.specs.declared.head.Head.{Head}
@@ -18,7 +18,6 @@ use Rattle.qos_profile.specs.declared.head.Head.TheVariants as heads
 use Rattle.qos_profile.specs.Values.{padded}
 use Rattle.qos_profile.specs.Sections.{same_head}
 use Rattle.qos_profile.specs.Printed.{Part, pool_part, port_part, subport_kind_part, pipe_kind_part, subport_part, subport_parts, codes_part, meter_part, rule_part, parts_of}
-use Rattle.qos_profile.specs.Forms.{KeepsForms, have_names_apart}
 use Rattle.qos_profile.proofs.Blocks.{all-weaker, each_pair, differs}
 
 -- which kind of section a head is of
@@ -177,8 +176,8 @@ meters-all P (m ∷ ms) g =
     and_from (P (heads.Meter (padded m.name))) (list_all (λ p. P p.head) (map meter_part ms)) (g (padded m.name)) (meters-all P ms g)
 
 -- all parts of a plan
-pub heads-apart : (p : Plan) → KeepsLimits p → KeepsForms p → each_pair (λ a b. differs a.head b.head) (parts_of p) ≡ true
-heads-apart p lim form =
+pub heads-apart : (p : Plan) → KeepsLimits p → each_pair (λ a b. differs a.head b.head) (parts_of p) ≡ true
+heads-apart p lim =
     let ports = each port_part p.ports in
     let sks = map subport_kind_part p.subport_kinds in
     let pks = map pipe_kind_part p.pipe_kinds in
@@ -208,7 +207,7 @@ heads-apart p lim form =
     }) in
     let coded : Kept 5 (codes_part p.codes ∷ []) = record { pairs = refl; low = refl } in
     let named = grow 5 6 (codes_part p.codes ∷ []) meters coded (omega arith) (record {
-      pairs = meters-apart p.meters form.names;
+      pairs = meters-apart p.meters lim.meter_names;
       high = meters-all (λ h. nat_lt 5 (tag h)) p.meters (λ name. refl);
       low = meters-all (λ h. nat_le (tag h) 6) p.meters (λ name. refl);
     }) in

@@ -113,33 +113,33 @@ module _ (p : Plan) (lim : KeepsLimits p) (form : KeepsForms p) where
   pub codes-same : codes_of (facts_at (printed_sections p) heads.Codes) ≡ p.codes
   unfolding codes_of
   codes-same =
-      let facts = facts-are 1 (parts_of p) (codes_part p.codes) (heads-apart p lim form) refl (among-codes p) in
+      let facts = facts-are 1 (parts_of p) (codes_part p.codes) (heads-apart p lim) refl (among-codes p) in
       let slotted = slots 0 None values.Entry 0 p.codes in
       ap (λ fs. map (λ code. entry_or (default_entry code) (value_at fs 0 code)) (range_with_len 0 64)) facts.1
       ∙ map-range (λ code. entry_or (default_entry code) (value_at (placed facts.0 slotted) 0 code)) 0 64 p.codes (sym lim.code_count) (λ i j x e there. ap (entry_or (default_entry j)) (value-placed facts.0 0 j slotted ∙ ap (λ fs. value_at fs 0 j) (sym (append-nil slotted)) ∙ slot-value 0 None values.Entry 0 p.codes i j x [] e there))
 
   pub subport-kind-same : (i : ℕ) (kind : ℕ × Shaping) → slice_get p.subport_kinds i ≡ Some kind → shaping_of (facts_at (printed_sections p) (heads.SubportKind kind.0)) ≡ kind.1
   subport-kind-same i kind there =
-      let facts = facts-are 1 (parts_of p) (subport_kind_part kind) (heads-apart p lim form) refl (among-subport-kind p i kind there) in
+      let facts = facts-are 1 (parts_of p) (subport_kind_part kind) (heads-apart p lim) refl (among-subport-kind p i kind there) in
       ap shaping_of facts.1
       ∙ ap (λ fs. shaping_of (placed facts.0 fs)) (sym (append-nil (shaping_facts kind.1)))
       ∙ shaping-back kind.1 [] facts.0 (all-at (λ x. HasClasses x.1) p.subport_kinds i kind there form.subport_kinds)
 
   pub pipe-kind-same : (i : ℕ) (kind : PipeKind) → slice_get p.pipe_kinds i ≡ Some kind → pipe_kind_of kind.number (facts_at (printed_sections p) (heads.PipeKind kind.number)) ≡ kind
   pipe-kind-same i kind there =
-      let facts = facts-are 1 (parts_of p) (pipe_kind_part kind) (heads-apart p lim form) refl (among-pipe-kind p i kind there) in
+      let facts = facts-are 1 (parts_of p) (pipe_kind_part kind) (heads-apart p lim) refl (among-pipe-kind p i kind there) in
       ap (pipe_kind_of kind.number) facts.1 ∙ pipe-kind-back kind facts.0 (all-at HasWeights p.pipe_kinds i kind there form.pipe_kinds)
 
   subport-same : (i j : ℕ) (port : PortPlan) (s : SubportPlan) → slice_get p.ports i ≡ Some port → slice_get port.subports j ≡ Some s → subport_of (facts_at (printed_sections p) (heads.Subport i j)) ≡ s
   subport-same i j port s there below =
-      let facts = facts-are 1 (parts_of p) (subport_part i j s) (heads-apart p lim form) refl (among-subport p i j port s there below) in
+      let facts = facts-are 1 (parts_of p) (subport_part i j s) (heads-apart p lim) refl (among-subport p i j port s there below) in
       ap subport_of facts.1 ∙ subport-back i j s facts.0
 
   pub port-same : (i : ℕ) (port : PortPlan) → slice_get p.ports i ≡ Some port → port_of (printed_sections p) i (facts_at (printed_sections p) (heads.Port i)) ≡ port
   unfolding port_of
   port-same i port there =
       let all = printed_sections p in
-      let facts = facts-are 1 (parts_of p) (port_part i port) (heads-apart p lim form) refl (among-port p i port there) in
+      let facts = facts-are 1 (parts_of p) (port_part i port) (heads-apart p lim) refl (among-port p i port there) in
       let subports : subports_of all i (length port.subports) ≡ port.subports = map-range (λ j. subport_of (facts_at all (heads.Subport i j))) 0 (length port.subports) port.subports refl (λ a j s e below. let same : a ≡ j = omega arith in subport-same i j port s there (subst (λ y. slice_get port.subports y ≡ Some s) same below)) in
       ap (port_of all i) facts.1
       ∙ ap (λ d. record { line = port.line; overhead = port.overhead; mtu = port.mtu; burst = port.burst; quantum = port.quantum; drain = d; subports = subports_of all i (length port.subports) }) (drain-back (values.Number port.line) (values.Number (length port.subports)) (values.Number port.overhead) (values.Number port.mtu) (values.Number port.burst) (values.Number port.quantum) port.drain facts.0)

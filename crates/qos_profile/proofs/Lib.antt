@@ -1,5 +1,6 @@
 pub mod Agreeing
 pub mod Answering
+pub mod Apart
 pub mod Building
 pub mod Courses
 pub mod FormLimits
@@ -8,6 +9,7 @@ pub mod Keeping
 pub mod KindLimits
 pub mod Knowing
 pub mod MeterLimits
+pub mod MeterNames
 pub mod Numbers
 pub mod PartLimits
 pub mod Patterns
@@ -36,7 +38,5 @@ pub mod KindsBack
 pub mod NumbersBack
 pub mod MetersBack
 pub mod PlanBack
-pub mod FormsKept
-pub mod ReadAgain
 pub mod Taken
 pub mod Free

@@ -7,7 +7,7 @@ use Rattle.std.proofs.lemmas.Bool.{and_parts, and_from, eq-eqb, leb-true, cases_
 use Rattle.std.proofs.lemmas.List.{length-map}
 use Rattle.std.proofs.lemmas.List.Elements.{All-map, All-filter, filter_passes}
 use Rattle.std.proofs.lemmas.List.Sums.{sum_by-cons}
-use Rattle.profile_plan.specs.Limits.{Within, IsMeterRate, IsLawful, IsMeter}
+use Rattle.profile_plan.specs.Limits.{Within, IsMeterRate, IsLawful, is_name_byte, IsMeter}
 use Rattle.profile_plan.specs.Meter.{periods_of}
 use Rattle.profile_plan.specs.declared.meter.MeterRate.TheVariants.{Periods, PerSecond}
 use Rattle.profile_plan.specs.declared.meter.MeterPlan.{MeterPlan}
@@ -33,7 +33,7 @@ use Rattle.qos_profile.specs.Kept.{IsGiven, EachFact, is_number_form}
 use Rattle.qos_profile.specs.Planned.{is_meter, meter_kind_of, other_rate_of, choice_at, drops_of, meter_of, meter_sections, meters_of, meter_number}
 use Rattle.qos_profile.proofs.Keeping.{IsMadeOf, given-from, found-passes, form-number}
 use Rattle.qos_profile.proofs.Slots.{any_mode, may_cover, may_give, may, each_key, IsFactOf, facts-any, number-default, number-within, key-may, slot-value, found-fact, same-slots}
-use Rattle.qos_profile.proofs.Sound.{IsHeadKept, IsSound, IsSoundIn}
+use Rattle.qos_profile.proofs.Sound.{IsHeadKept, name-word, IsSound, IsSoundIn}
 use Rattle.qos_profile.proofs.PartLimits.{totals-small}
 use Rattle.qos_profile.proofs.SubportLimits.{both-facts}
 use Rattle.qos_profile.proofs.PortLimits.{each-all}
@@ -187,8 +187,11 @@ meter-limits ss s (heads.Meter name) sound e is =
     let given = subst (λ h. EachFact (IsGiven h) s.facts) e sound.given in
     let each = facts-any (heads.Meter name) s.facts given in
     let sizes = size-limits name s.facts each in
+    let named = subst IsHeadKept e sound.head in
+    let word = sym (name-word name named) in
     record {
-      name = subst IsHeadKept e sound.head;
+      name = subst (λ w. Within 1 32 (length w)) word named.size;
+      letters = subst (λ w. list_all is_name_byte w ≡ true) word named.bytes;
       cir = rate-limits (heads.Meter name) 2 s.facts (committed-keys name) each;
       other = other-limits (meter_kind_of (mode_of s.facts)) s.facts (rate-limits (heads.Meter name) 3 s.facts (other-keys name) each);
       cbs = sizes.0;

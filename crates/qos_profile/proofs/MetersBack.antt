@@ -13,7 +13,7 @@ use Rattle.profile_plan.specs.declared.meter.MeterRate.{MeterRate}
 use Rattle.profile_plan.specs.declared.meter.MeterRate.TheVariants.{Periods, PerSecond}
 use Rattle.profile_plan.specs.declared.meter.MeterPlan.{MeterPlan}
 use Rattle.profile_plan.specs.Limits.{IsMeter, IsLawful}
-use Rattle.profile_plan.specs.Profile.{Plan, KeepsLimits}
+use Rattle.profile_plan.specs.Profile.{Plan, KeepsLimits, have_names_apart}
 use Rattle.profile_print.specs.Written.{each, each_from}
 use Rattle.qos_profile.specs.declared.value.Value.{Value}
 use Rattle.qos_profile.specs.declared.value.Value.TheVariants as values
@@ -24,7 +24,7 @@ use Rattle.qos_profile.specs.Values.{padded}
 use Rattle.qos_profile.specs.Sections.{same_head}
 use Rattle.qos_profile.specs.Planned.{is_meter, name_in, meter_of, meter_sections, meters_of, meter_number}
 use Rattle.qos_profile.specs.Printed.{Part, sections_from, pool_part, port_part, subport_kind_part, pipe_kind_part, subport_part, subport_parts, codes_part, meter_part, rule_part, parts_of, printed_sections}
-use Rattle.qos_profile.specs.Forms.{HasName, KeepsForms, have_names_apart}
+use Rattle.qos_profile.specs.Forms.{HasActions, KeepsForms}
 use Rattle.qos_profile.proofs.Heads.{padded-differ}
 use Rattle.qos_profile.proofs.PlanParts.{all-at}
 use Rattle.qos_profile.proofs.Found.{same-self}
@@ -150,7 +150,7 @@ fields-back name Rfc4115 (PerSecond x) (PerSecond z) cbs size b e f g k h = refl
 lawful-other : (m : MeterPlan) → IsLawful m.kind m → m.kind ≡ SrTcm → m.other ≡ Periods 0 1
 lawful-other m h e = (subst (λ k. IsLawful k m) e h).1
 
-meter-back : (m : MeterPlan) (k : ℕ) → IsMeter m → HasName m → meter_of (heads.Meter (padded m.name)) (placed k (meter_part m).facts) ≡ m
+meter-back : (m : MeterPlan) (k : ℕ) → IsMeter m → HasActions m → meter_of (heads.Meter (padded m.name)) (placed k (meter_part m).facts) ≡ m
 meter-back m k lim form =
     let e = slice_index_or m.drops 0 false in
     let f = slice_index_or m.drops 1 false in
@@ -161,9 +161,9 @@ meter-back m k lim form =
     ∙ ap (λ x. record { name = m.name; kind = m.kind; aware = m.aware; cir = m.cir; other = m.other; cbs = m.cbs; other_size = m.other_size; drops = x ∷ (cond f 1 0 == 1) ∷ (cond g 1 0 == 1) ∷ [] }) (choice-back e)
     ∙ ap (λ x. record { name = m.name; kind = m.kind; aware = m.aware; cir = m.cir; other = m.other; cbs = m.cbs; other_size = m.other_size; drops = e ∷ x ∷ (cond g 1 0 == 1) ∷ [] }) (choice-back f)
     ∙ ap (λ x. record { name = m.name; kind = m.kind; aware = m.aware; cir = m.cir; other = m.other; cbs = m.cbs; other_size = m.other_size; drops = e ∷ f ∷ x ∷ [] }) (choice-back g)
-    ∙ ap (λ ds. record { name = m.name; kind = m.kind; aware = m.aware; cir = m.cir; other = m.other; cbs = m.cbs; other_size = m.other_size; drops = ds }) (three m.drops form.drops)
+    ∙ ap (λ ds. record { name = m.name; kind = m.kind; aware = m.aware; cir = m.cir; other = m.other; cbs = m.cbs; other_size = m.other_size; drops = ds }) (three m.drops form)
 
-meters-back : (n : ℕ) (ms : List MeterPlan) → ((i : ℕ) (m : MeterPlan) → slice_get ms i ≡ Some m → IsMeter m × HasName m) → map (λ s. meter_of s.head s.facts) (sections_from n (map meter_part ms)) ≡ ms
+meters-back : (n : ℕ) (ms : List MeterPlan) → ((i : ℕ) (m : MeterPlan) → slice_get ms i ≡ Some m → IsMeter m × HasActions m) → map (λ s. meter_of s.head s.facts) (sections_from n (map meter_part ms)) ≡ ms
 meters-back n [] h = refl
 meters-back n (m ∷ ms) h =
     let here = h 0 m refl in
@@ -206,9 +206,9 @@ module _ (p : Plan) (lim : KeepsLimits p) (form : KeepsForms p) where
   meters-same =
       let sections = meter-sections p in
       ap (map (λ s. meter_of s.head s.facts)) sections.1
-      ∙ meters-back sections.0 p.meters (λ i m there. (all-at IsMeter p.meters i m there lim.meters, all-at HasName p.meters i m there form.meters))
+      ∙ meters-back sections.0 p.meters (λ i m there. (all-at IsMeter p.meters i m there lim.meters, all-at HasActions p.meters i m there form.meters))
 
   pub number-same : (i : ℕ) (m : MeterPlan) → slice_get p.meters i ≡ Some m → meter_number (printed_sections p) (padded m.name) ≡ i
   number-same i m there =
       let sections = meter-sections p in
-      ap (position_or_len (λ s. same_head s.head (heads.Meter (padded m.name)))) sections.1 ∙ place-back sections.0 p.meters i m form.names there
+      ap (position_or_len (λ s. same_head s.head (heads.Meter (padded m.name)))) sections.1 ∙ place-back sections.0 p.meters i m lim.meter_names there

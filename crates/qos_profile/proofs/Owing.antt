@@ -92,12 +92,12 @@ module _ (p : Plan) (lim : KeepsLimits p) (form : KeepsForms p) where
 
   pub subports-count : (i : ℕ) (port : PortPlan) → slice_get p.ports i ≡ Some port → number_at (facts_at (printed_sections p) (heads.Port i)) 1 0 0 ≡ length port.subports
   subports-count i port there =
-      let facts = facts-are 1 (parts_of p) (port_part i port) (heads-apart p lim form) refl (among-port p i port there) in
+      let facts = facts-are 1 (parts_of p) (port_part i port) (heads-apart p lim) refl (among-port p i port there) in
       ap (λ fs. number_at fs 1 0 0) facts.1
 
   pub pipes-count : (i j : ℕ) (port : PortPlan) (s : SubportPlan) → slice_get p.ports i ≡ Some port → slice_get port.subports j ≡ Some s → number_at (facts_at (printed_sections p) (heads.Subport i j)) 1 0 0 ≡ length s.pipes
   pipes-count i j port s there below =
-      let facts = facts-are 1 (parts_of p) (subport_part i j s) (heads-apart p lim form) refl (among-subport p i j port s there below) in
+      let facts = facts-are 1 (parts_of p) (subport_part i j s) (heads-apart p lim) refl (among-subport p i j port s there below) in
       ap (λ fs. number_at fs 1 0 0) facts.1
 
   ports-there : (count : ℕ) → count ≤ length p.ports → has_ports (printed_sections p) count ≡ true

@@ -167,7 +167,7 @@ module _ (p : Plan) (lim : KeepsLimits p) (form : KeepsForms p) where
 
   rule-same : (i : ℕ) (r : RulePlan) → slice_get p.rules i ≡ Some r → rule_of (printed_sections p) r.number (facts_at (printed_sections p) (heads.Rule r.number)) ≡ r
   rule-same i r there =
-      let facts = facts-are 1 (parts_of p) (rule_part p.meters r) (heads-apart p lim form) refl (among-rule p i r there) in
+      let facts = facts-are 1 (parts_of p) (rule_part p.meters r) (heads-apart p lim) refl (among-rule p i r there) in
       ap (rule_of (printed_sections p) r.number) facts.1 ∙ rule-back r facts.0 (all-at (IsRule p.ports p.meters) p.rules i r there lim.rules).meter
 
   rules-same : rules_of (printed_sections p) ≡ p.rules

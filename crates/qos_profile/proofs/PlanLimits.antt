@@ -13,6 +13,7 @@ use Rattle.qos_profile.proofs.KindLimits.{keys-increase, subport-kinds-limits, p
 use Rattle.qos_profile.proofs.PortLimits.{ports-limits, ports-length, port-count-limits, ports-fit}
 use Rattle.qos_profile.proofs.TotalLimits.{pipe-total-limits, queue-total-limits}
 use Rattle.qos_profile.proofs.MeterLimits.{meters-limits, meters-few}
+use Rattle.qos_profile.proofs.MeterNames.{names-apart}
 use Rattle.qos_profile.proofs.RuleLimits.{rules-limits, rule-number, rules-fit, codes-limits, codes-fit}
 
 pub plan-limits : (ss : List Section) → IsSound ss → KeepsLimits (plan_of ss)
@@ -33,6 +34,7 @@ plan-limits ss sound =
       code_count = codes.1;
       meters = meters-limits ss sound;
       meter_count = meters-few ss sound;
+      meter_names = names-apart ss ss sound.each sound.apart;
       rules = rules-limits ss sound;
       rules_order = keys-increase ss heads.Rule 256 (λ n. rule_of ss n (facts_at ss (heads.Rule n))) (λ rule. rule.number) (λ n. rule-number ss n (facts_at ss (heads.Rule n)));
     }

@@ -12,14 +12,14 @@ use Rattle.profile_plan.specs.declared.meter.MeterPlan.{MeterPlan}
 use Rattle.profile_plan.specs.declared.rule.PipeChoice.{PipeChoice}
 use Rattle.profile_plan.specs.declared.rule.PipeChoice.TheVariants as pipes
 use Rattle.profile_plan.specs.declared.rule.RulePlan.{RulePlan}
-use Rattle.profile_plan.specs.Limits.{IsShaping, IsPipeKind, IsMeter}
+use Rattle.profile_plan.specs.Limits.{IsShaping, IsPipeKind, IsMeter, is_name_byte}
 use Rattle.profile_plan.specs.Profile.{Plan, KeepsLimits, IsPort, IsSubport, IsRule, IsBelow, subport_kind_of, pipe_kind_of, subport_of}
 use Rattle.profile_print.specs.Written.{Block, each, each_from}
 use Rattle.profile_print.specs.Text.{pool_block, port_block, subport_kind_block, pipe_kind_block, subport_block, subport_blocks, codes_block, meter_block, rule_block, name_of_meter, blocks_of}
 use Rattle.profile_print.specs.Plain.{is_plain, is_word, HasWords}
-use Rattle.qos_profile.specs.Values.{is_name_byte, is_within}
+use Rattle.qos_profile.specs.Values.{is_within}
 use Rattle.qos_profile.specs.Printed.{Part, pool_part, port_part, subport_kind_part, pipe_kind_part, subport_part, subport_parts, codes_part, meter_part, rule_part, parts_of}
-use Rattle.qos_profile.specs.Forms.{HasClasses, HasSizes, HasWeights, HasName, HasAddresses, KeepsForms}
+use Rattle.qos_profile.specs.Forms.{HasClasses, HasSizes, HasWeights, HasAddresses, KeepsForms}
 use Rattle.qos_profile.proofs.Blocks.{all-weaker, AreRead}
 use Rattle.qos_profile.proofs.Parts.{pool-read, port-read, subport-kind-read, pipe-kind-read, subport-read, codes-read}
 use Rattle.qos_profile.proofs.RuleParts.{IsPipe, IsName, meter-read, rule-read}
@@ -92,22 +92,21 @@ module _ (ks : List (ℕ × Shaping)) (ps : List PipeKind) (hk : All (λ k. (k.0
       let here = All-head (IsPort ks ps) port ports h in
       reads-append (each (subport_block n) port.subports) (subport_blocks (n + 1) ports) (each (subport_part n) port.subports) (subport_parts (n + 1) ports) (subports-read n 0 port.subports (omega arith) (omega (arith, here.subports.1)) here.each (All-head HasSizes port ports g)) (all-subports-read (n + 1) ports (omega arith) (All-tail (IsPort ks ps) port ports h) (All-tail HasSizes port ports g))
 
-meters-read : (ms : List MeterPlan) → All IsMeter ms → All HasName ms → AreRead (map meter_block ms) (map meter_part ms)
-meters-read [] h g = tt
-meters-read (m ∷ ms) h g =
-    (meter-read m (All-head IsMeter m ms h) (All-head HasName m ms g), meters-read ms (All-tail IsMeter m ms h) (All-tail HasName m ms g))
+meters-read : (ms : List MeterPlan) → All IsMeter ms → AreRead (map meter_block ms) (map meter_part ms)
+meters-read [] h = tt
+meters-read (m ∷ ms) h = (meter-read m (All-head IsMeter m ms h), meters-read ms (All-tail IsMeter m ms h))
 
 -- the name of a meter that is there
-name-there : (ms : List MeterPlan) (n : ℕ) → n < length ms → All IsMeter ms → All HasName ms → IsName (name_of_meter ms n)
-name-there [] n below h g = absurd (omega arith)
-name-there (m ∷ ms) zero below h g =
+name-there : (ms : List MeterPlan) (n : ℕ) → n < length ms → All IsMeter ms → IsName (name_of_meter ms n)
+name-there [] n below h = absurd (omega arith)
+name-there (m ∷ ms) zero below h =
     let lim = All-head IsMeter m ms h in
-    record { low = lim.name.0; high = lim.name.1; bytes = (All-head HasName m ms g).name }
-name-there (m ∷ ms) (suc n) below h g = name-there ms n (omega arith) (All-tail IsMeter m ms h) (All-tail HasName m ms g)
+    record { low = lim.name.0; high = lim.name.1; bytes = lim.letters }
+name-there (m ∷ ms) (suc n) below h = name-there ms n (omega arith) (All-tail IsMeter m ms h)
 
-meter-named : (ms : List MeterPlan) (o : Option ℕ) → IfSome o (λ n. n < length ms) → All IsMeter ms → All HasName ms → IfSome o (λ n. IsName (name_of_meter ms n))
-meter-named ms None below h g = below
-meter-named ms (Some n) below h g = name-there ms n below h g
+meter-named : (ms : List MeterPlan) (o : Option ℕ) → IfSome o (λ n. n < length ms) → All IsMeter ms → IfSome o (λ n. IsName (name_of_meter ms n))
+meter-named ms None below h = below
+meter-named ms (Some n) below h = name-there ms n below h
 
 -- where a rule's port, subport and pipe are there, their numbers are small
 record IsPlace (r : RulePlan) : Type 0 where
@@ -136,9 +135,9 @@ place-of ks ps ports r few h there below = at-port (slice_get ports r.port) refl
         let i = get-below ports r.port port e in
         at-subport port (omega arith) (all-at (IsPort ks ps) ports r.port port e h) (slice_get port.subports r.subport) refl is g
 
-rules-read : (ks : List (ℕ × Shaping)) (ps : List PipeKind) (ports : List PortPlan) (ms : List MeterPlan) (rs : List RulePlan) → length ports ≤ 16 → All (IsPort ks ps) ports → All IsMeter ms → All HasName ms → All (IsRule ports ms) rs → All HasAddresses rs → AreRead (map (rule_block ms) rs) (map (rule_part ms) rs)
-rules-read ks ps ports ms [] few hp hm hn h g = tt
-rules-read ks ps ports ms (r ∷ rs) few hp hm hn h g =
+rules-read : (ks : List (ℕ × Shaping)) (ps : List PipeKind) (ports : List PortPlan) (ms : List MeterPlan) (rs : List RulePlan) → length ports ≤ 16 → All (IsPort ks ps) ports → All IsMeter ms → All (IsRule ports ms) rs → All HasAddresses rs → AreRead (map (rule_block ms) rs) (map (rule_part ms) rs)
+rules-read ks ps ports ms [] few hp hm h g = tt
+rules-read ks ps ports ms (r ∷ rs) few hp hm h g =
     let lim = All-head (IsRule ports ms) r rs h in
     let place = place-of ks ps ports r few hp lim.subport lim.pipe in (
       rule-read ms r (record {
@@ -152,9 +151,9 @@ rules-read ks ps ports ms (r ∷ rs) few hp hm hn h g =
         subport = place.subport;
         pipe = place.pipe;
         code = lim.code;
-        meter = meter-named ms r.meter lim.meter hm hn;
+        meter = meter-named ms r.meter lim.meter hm;
       }),
-      rules-read ks ps ports ms rs few hp hm hn (All-tail (IsRule ports ms) r rs h) (All-tail HasAddresses r rs g),
+      rules-read ks ps ports ms rs few hp hm (All-tail (IsRule ports ms) r rs h) (All-tail HasAddresses r rs g),
     )
 
 pub plan-read : (p : Plan) → KeepsLimits p → KeepsForms p → AreRead (blocks_of p) (parts_of p)
@@ -174,8 +173,8 @@ plan-read p lim form =
     let a = reads-append xs0 xs1 ys0 ys1 (pool-read p.pool lim.pool, ports-read p.subport_kinds p.pipe_kinds 0 p.ports (omega (arith, lim.ports.1)) lim.each_port) (subport-kinds-read p.subport_kinds lim.subport_kinds form.subport_kinds) in
     let b = reads-append (xs0 ++ xs1) xs2 (ys0 ++ ys1) ys2 a (pipe-kinds-read p.pipe_kinds lim.pipe_kinds form.pipe_kinds) in
     let c = reads-append (xs0 ++ xs1 ++ xs2) xs3 (ys0 ++ ys1 ++ ys2) ys3 b (all-subports-read p.subport_kinds p.pipe_kinds lim.subport_kinds lim.pipe_kinds 0 p.ports (omega (arith, lim.ports.1)) lim.each_port form.ports) in
-    let d = reads-append (xs0 ++ xs1 ++ xs2 ++ xs3) xs4 (ys0 ++ ys1 ++ ys2 ++ ys3) ys4 c (codes-read p.codes lim.code_count lim.codes, meters-read p.meters lim.meters form.meters) in
-    reads-append (xs0 ++ xs1 ++ xs2 ++ xs3 ++ xs4) xs5 (ys0 ++ ys1 ++ ys2 ++ ys3 ++ ys4) ys5 d (rules-read p.subport_kinds p.pipe_kinds p.ports p.meters p.rules lim.ports.1 lim.each_port lim.meters form.meters lim.rules form.rules)
+    let d = reads-append (xs0 ++ xs1 ++ xs2 ++ xs3) xs4 (ys0 ++ ys1 ++ ys2 ++ ys3) ys4 c (codes-read p.codes lim.code_count lim.codes, meters-read p.meters lim.meters) in
+    reads-append (xs0 ++ xs1 ++ xs2 ++ xs3 ++ xs4) xs5 (ys0 ++ ys1 ++ ys2 ++ ys3 ++ ys4) ys5 d (rules-read p.subport_kinds p.pipe_kinds p.ports p.meters p.rules lim.ports.1 lim.each_port lim.meters lim.rules form.rules)
 
 -- a name is a plain word
 name-plain : (b : ℕ) → is_name_byte b ≡ true → is_plain b ≡ true
@@ -188,15 +187,15 @@ name-plain b h =
     (λ e. let same = eqb-true b 95 e in or_right (nat_le 46 b && nat_le b 57) (nat_le 95 b && nat_le b 122) (and_from (nat_le 95 b) (nat_le b 122) (le-leb 95 b (omega arith)) (le-leb b 122 (omega arith))))
     (or_cases (is_within 97 122 b || is_within 48 57 b) (b == 95) h)
 
-names-plain : (ms : List MeterPlan) → All IsMeter ms → All HasName ms → All (λ m. is_word m.name ≡ true) ms
+names-plain : (ms : List MeterPlan) → All IsMeter ms → All (λ m. is_word m.name ≡ true) ms
 unfolding is_word
-names-plain ms h g = λ k d below.
+names-plain ms h = λ k d below.
     let m = get_or ms k d in
-    and_from (nat_le 1 (length m.name)) (list_all is_plain m.name) (le-leb 1 (length m.name) (h k d below).name.0) (all-weaker is_name_byte is_plain name-plain m.name (g k d below).name)
+    and_from (nat_le 1 (length m.name)) (list_all is_plain m.name) (le-leb 1 (length m.name) (h k d below).name.0) (all-weaker is_name_byte is_plain name-plain m.name (h k d below).letters)
 
 pub plan-words : (p : Plan) → KeepsLimits p → KeepsForms p → HasWords p
 plan-words p lim form = record {
-  names = names-plain p.meters lim.meters form.meters;
+  names = names-plain p.meters lim.meters;
   named = λ k d below. (lim.rules k d below).meter;
   sizes = λ k d below. λ i e under. (let size = form.ports k d below i e under in omega arith);
   weights = λ k d below. (let size = (form.pipe_kinds k d below).count in omega arith);

@@ -26,12 +26,12 @@ module _ (p : Plan) (lim : KeepsLimits p) (form : KeepsForms p) (same : lines_of
   pub clear-lines : first_fault [] (lines_of (text_of p)) ≡ None
   unfolding sections_of
   clear-lines =
-      ap (first_fault []) same ∙ (blocks-clean [] 1 [] (blocks_of p) (parts_of p) refl refl (plan-read p lim form) refl (heads-apart p lim form)).0
+      ap (first_fault []) same ∙ (blocks-clean [] 1 [] (blocks_of p) (parts_of p) refl refl (plan-read p lim form) refl (heads-apart p lim)).0
 
   pub same-sections : sections_of 1 (lines_of (text_of p)) ≡ printed_sections p
   unfolding sections_of
   same-sections =
-      ap (sections_of 1) same ∙ (blocks-clean [] 1 [] (blocks_of p) (parts_of p) refl refl (plan-read p lim form) refl (heads-apart p lim form)).1
+      ap (sections_of 1) same ∙ (blocks-clean [] 1 [] (blocks_of p) (parts_of p) refl refl (plan-read p lim form) refl (heads-apart p lim)).1
 
   -- nothing is at fault in the whole
   pub clear-whole : fault_of_sections (printed_sections p) ≡ None

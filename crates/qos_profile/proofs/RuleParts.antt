@@ -17,7 +17,7 @@ use Rattle.profile_plan.specs.declared.rule.PipeChoice.TheVariants as pipes
 use Rattle.profile_plan.specs.declared.rule.CodeChoice.{CodeChoice}
 use Rattle.profile_plan.specs.declared.rule.CodeChoice.TheVariants as choices
 use Rattle.profile_plan.specs.declared.rule.RulePlan.{RulePlan}
-use Rattle.profile_plan.specs.Limits.{IsMeterRate, IsMeter, IsVlan, IsPrefix, IsCode}
+use Rattle.profile_plan.specs.Limits.{IsMeterRate, is_name_byte, IsMeter, IsVlan, IsPrefix, IsCode}
 use Rattle.profile_print.specs.Text.{number, word, kind_word, mode_word, meter_rate_keys, other_rate_keys, size_word, action_word, action_keys, front_keys, meter_block, input_word, vlan_word, proto_word, prefix_or_any_word, pipe_word, code_words, name_of_meter, rule_block}
 use Rattle.profile_print.specs.Text as text
 use Rattle.qos_profile.specs.declared.value.Value.{Value}
@@ -26,11 +26,11 @@ use Rattle.qos_profile.specs.declared.head.Head.{Head}
 use Rattle.qos_profile.specs.declared.head.Head.TheVariants as heads
 use Rattle.qos_profile.specs.Table as table
 use Rattle.qos_profile.specs.Table.{meter_keys, rule_keys}
-use Rattle.qos_profile.specs.Values.{value_of, prefix_or_any, code_of, padded, is_name_byte}
+use Rattle.qos_profile.specs.Values.{value_of, prefix_or_any, code_of, padded}
 use Rattle.qos_profile.specs.Heads.{head_of, numbered, meter_head}
 use Rattle.qos_profile.specs.Facts.{keys_of}
 use Rattle.qos_profile.specs.Printed.{gives, number_fact, value_fact, word_fact, kind_number, meter_rate_facts, other_rate_facts, size_told, action_fact, meter_part, input_value, vlan_value, proto_value, prefix_value, pipe_value, code_value, meter_facts, rule_part}
-use Rattle.qos_profile.specs.Forms.{HasName, HasAddresses, IsAddress}
+use Rattle.qos_profile.specs.Forms.{HasAddresses, IsAddress}
 use Rattle.qos_profile.proofs.Written.{range-is, value-number-or}
 use Rattle.qos_profile.proofs.Words.{value-prefix, value-fixed, name-read, value-named}
 use Rattle.qos_profile.proofs.Blocks.{each_pair, precedes, Says, SaysAll, IsRead}
@@ -126,11 +126,11 @@ meter-apart Rfc4115 (Periods x y) (PerSecond z) a b c d e f g t u = refl
 meter-apart Rfc4115 (PerSecond x) (Periods z w) a b c d e f g t u = refl
 meter-apart Rfc4115 (PerSecond x) (PerSecond z) a b c d e f g t u = refl
 
-pub meter-read : (m : MeterPlan) → IsMeter m → HasName m → IsRead (meter_block m) (meter_part m)
+pub meter-read : (m : MeterPlan) → IsMeter m → IsRead (meter_block m) (meter_part m)
 unfolding meter_block front_keys head_of
-meter-read m lim form = record {
+meter-read m lim = record {
   mode = Some (kind_number m.kind);
-  head = ap meter_head (name-read m.name lim.name.0 lim.name.1 form.name);
+  head = ap meter_head (name-read m.name lim.name.0 lim.name.1 lim.letters);
   listed = refl;
   keys = meter-says (heads.Meter (padded m.name)) refl m lim;
   first = refl;

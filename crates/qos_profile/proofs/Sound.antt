@@ -1,18 +1,20 @@
 -- What stands in sections that have no fault.
-use Rattle.std.proofs.Common.{◌≡◌, ◌==◌, ℕ, ◌+◌, ◌≤◌, Bool, true, false, cond, not, ◌&&◌, ◌||◌, nat_le, List, [], ◌∷◌, ◌++◌, length, find, take, codes, Option, None, Some, Result, Ok, Err, refl, sym, ap, subst, ◌∙◌}
+use Rattle.std.proofs.Common.{◌≡◌, ◌==◌, ℕ, ◌+◌, ◌≤◌, Bool, true, false, cond, not, ◌&&◌, ◌||◌, nat_le, List, [], ◌∷◌, ◌-◌, length, find, take, replicate, codes, Option, None, Some, Result, Ok, Err, refl, sym, ap, subst, ◌∙◌}
 use Rattle.std.specs.List.{list_any, list_all}
 use Rattle.std.specs.Option.{option_map}
 use Rattle.std.proofs.lemmas.Bool.{and_parts, and_from, eqb-true, leb-true}
+use Rattle.std.proofs.lemmas.List.{take_at}
 use Rattle.profile_lines.specs.Lines.{Line, NotText, Blank, Head as HeadLine, Entry, Neither}
 use Rattle.profile_lines.specs.Numbers.{number_of}
-use Rattle.profile_plan.specs.Limits.{Within}
+use Rattle.profile_plan.specs.Limits.{Within, is_name_byte}
 use Rattle.qos_profile.specs.declared.fault.FaultKind.{FaultKind}
 use Rattle.qos_profile.specs.declared.fault.FaultKind.TheVariants as faults
+use Rattle.qos_profile.specs.declared.name.Name.{Name}
 use Rattle.qos_profile.specs.declared.head.Head.{Head}
 use Rattle.qos_profile.specs.declared.head.Head.TheVariants as heads
 use Rattle.qos_profile.specs.declared.fact.Fact.{Fact}
 use Rattle.qos_profile.specs.declared.section.Section.{Section}
-use Rattle.qos_profile.specs.Values.{word_at, name_of, padded, is_name_byte}
+use Rattle.qos_profile.specs.Values.{word_at, name_of, padded}
 use Rattle.qos_profile.specs.Heads.{head_of, fits, numbered, number_at_most, subport_head, meter_head}
 use Rattle.qos_profile.specs.Sections.{head_or_red, same_head, sections_of, first_fault}
 use Rattle.qos_profile.specs.Lookups.{is_there, facts_or_none, facts_at}
@@ -24,8 +26,20 @@ use Rattle.qos_profile.specs.Faults.{first_of, fault_of_sections}
 use Rattle.qos_profile.specs.Kept.{IsGiven, EachFact, AreGiven}
 use Rattle.qos_profile.proofs.Keeping.{sections-given, number-ok}
 use Rattle.qos_profile.proofs.Agreeing.{section_agrees, lines-agree}
+use Rattle.qos_profile.proofs.Apart.{are_apart, sections-apart}
 
--- the number of a head is within its limit, and a meter's name has 1 to 32 characters
+-- a name of 1 to 32 letters, digits and `_`
+pub record IsNamed (name : Name) : Type 0 where
+  pub word : List ℕ
+  pub is : name ≡ padded word
+  pub size : Within 1 32 (length word)
+  pub bytes : list_all is_name_byte word ≡ true
+
+pub name-word : (name : Name) (is : IsNamed name) → take name.length name.bytes ≡ is.word
+name-word name is =
+    ap (λ n. take n.length n.bytes) is.is ∙ take_at is.word (replicate (32 - length is.word) 0) (length is.word) refl
+
+-- the number of a head is within its limit, and a meter's name is one
 abbrev pub IsHeadKept : Head → Type 0
 IsHeadKept heads.Pool = Unit {0}
 IsHeadKept (heads.Port n) = n ≤ 15
@@ -33,7 +47,7 @@ IsHeadKept (heads.SubportKind n) = n ≤ 63
 IsHeadKept (heads.PipeKind n) = n ≤ 255
 IsHeadKept (heads.Subport p k) = Unit {0}
 IsHeadKept heads.Codes = Unit {0}
-IsHeadKept (heads.Meter name) = Within 1 32 (length (take name.length name.bytes))
+IsHeadKept (heads.Meter name) = IsNamed name
 IsHeadKept (heads.Rule n) = n ≤ 255
 IsHeadKept heads.Red = Unit {0}
 
@@ -57,6 +71,7 @@ EachSection P (s ∷ ss) = P s × EachSection P ss
 -- sections without a fault
 pub record IsSound (ss : List Section) : Type 0 where
   pub each : EachSection (IsSoundIn ss) ss
+  pub apart : are_apart ss ≡ true
   pub there : is_there ss (heads.Port 0) ≡ true
   pub small : too_large ss ≡ None
 
@@ -74,10 +89,6 @@ subport-kept (Some p) (Some k) = tt
 subport-kept (Some p) None = tt
 subport-kept None k = tt
 
-take-front : (xs ys : List ℕ) → take (length xs) (xs ++ ys) ≡ xs
-take-front [] ys = refl
-take-front (x ∷ xs) ys = ap (λ zs. x ∷ zs) (take-front xs ys)
-
 meter-kept : (word : List ℕ) → IsHeadKept (head_or_red (meter_head (name_of word)))
 unfolding name_of
 meter-kept word = by (nat_le 1 (length word) && nat_le (length word) 32 && list_all is_name_byte word) refl
@@ -86,7 +97,7 @@ meter-kept word = by (nat_le 1 (length word) && nat_le (length word) 32 && list_
     by true h =
         let parts = and_parts (nat_le 1 (length word) && nat_le (length word) 32) (list_all is_name_byte word) h in
         let limits = and_parts (nat_le 1 (length word)) (nat_le (length word) 32) parts.0 in
-        subst (λ w. Within 1 32 (length w)) (sym (take-front word _)) (leb-true 1 (length word) limits.0, leb-true (length word) 32 limits.1)
+        record { word = word; is = refl; size = (leb-true 1 (length word) limits.0, leb-true (length word) 32 limits.1); bytes = parts.1 }
     by false h = tt
 
 -- the head of any words
@@ -196,6 +207,7 @@ lines-sound lines clear whole =
     let ports = and_parts (has_ports ss 1) (list_all (λ s. has_ports ss (ports_to s.head)) ss) parts.0 in
     record {
       each = together ss ss (heads-kept 1 lines) (sections-given 1 lines) (record { agrees = lines-agree lines clear; complete = missing.1; ports = ports.1; subports = parts.1; named = none.1; ranges = none-found (λ s. keeps_ranges s.head s.facts) (λ s. s.line) ss none.2 });
+      apart = sections-apart lines clear;
       there = (and_parts (is_there ss (heads.Port 0)) true ports.0).0;
       small = none.3;
     }

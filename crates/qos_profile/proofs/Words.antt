@@ -14,7 +14,7 @@ use Rattle.qos_base.specs.declared.packet.Colour.TheVariants.{Green, Yellow, Red
 use Rattle.code_table.specs.declared.entry.Entry.{Entry}
 use Rattle.code_table.specs.Entry.{IsValid}
 use Rattle.profile_plan.specs.declared.rule.Prefix.{Prefix}
-use Rattle.profile_plan.specs.Limits.{IsPrefix}
+use Rattle.profile_plan.specs.Limits.{IsPrefix, is_name_byte}
 use Rattle.profile_print.specs.Text.{colour_word, entry_words, prefix_word}
 use Rattle.profile_lines.specs.Numbers.{number_of}
 use Rattle.qos_profile.specs.declared.fault.FaultKind.{FaultKind}
@@ -23,7 +23,7 @@ use Rattle.qos_profile.specs.declared.name.Name.{Name}
 use Rattle.qos_profile.specs.declared.value.Value.{Value}
 use Rattle.qos_profile.specs.declared.value.Value.TheVariants as values
 use Rattle.qos_profile.specs.Table as table
-use Rattle.qos_profile.specs.Values.{value_of, is_within, address_of, masked, front, rest, prefix_with, prefix_from, prefix_at, prefix_of, prefix_or_any, place_among, colours, colour_at, is_place, entry_with, entry_at, entry_of, code_of, is_name_byte, padded, name_of, as_name}
+use Rattle.qos_profile.specs.Values.{value_of, is_within, address_of, masked, front, rest, prefix_with, prefix_from, prefix_at, prefix_of, prefix_or_any, place_among, colours, colour_at, is_place, entry_with, entry_at, entry_of, code_of, padded, name_of, as_name}
 use Rattle.qos_profile.proofs.Written.{number-is, first-digit, own}
 
 -- the place of the first byte that passes, behind some that do not

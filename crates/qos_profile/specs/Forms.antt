@@ -1,8 +1,6 @@
--- What a plan keeps beside its limits, so that its text can be read back: the lengths of its arrays, the numbers of its types,
--- and names of letters, digits and `_`, all different.
-use Rattle.std.specs.Prelude.{◌≡◌, ◌^◌, ◌<◌, ◌≤◌, Bool, true, not, ◌&&◌, List, [], ◌∷◌, length, All, IfSome}
-use Rattle.std.specs.List.{list_all}
-use Rattle.std.specs.Str.{bytes_eq}
+-- What a plan keeps beside its limits, so that its text can be read back: the lengths of its arrays and the ranges of its
+-- integers, which the types of a profile's parts have.
+use Rattle.std.specs.Prelude.{◌≡◌, ◌^◌, ◌<◌, ◌≤◌, length, All, IfSome}
 use Rattle.profile_plan.specs.declared.port.PortPlan.{PortPlan}
 use Rattle.profile_plan.specs.declared.shaping.Shaping.{Shaping}
 use Rattle.profile_plan.specs.declared.shaping.Shaping.TheVariants as shapings
@@ -11,7 +9,6 @@ use Rattle.profile_plan.specs.declared.meter.MeterPlan.{MeterPlan}
 use Rattle.profile_plan.specs.declared.rule.Prefix.{Prefix}
 use Rattle.profile_plan.specs.declared.rule.RulePlan.{RulePlan}
 use Rattle.profile_plan.specs.Profile.{Plan}
-use Rattle.qos_profile.specs.Values.{is_name_byte}
 
 -- thirteen classes
 abbrev pub HasClasses : Shaping → Type 0
@@ -28,14 +25,9 @@ pub record HasWeights (k : PipeKind) : Type 0 where
   pub weights : All (λ n. n ≤ 255) k.weights
   pub ov_weight : k.ov_weight ≤ 255
 
-pub record HasName (m : MeterPlan) : Type 0 where
-  pub name : list_all is_name_byte m.name ≡ true
-  pub drops : length m.drops ≡ 3
-
--- no two have one name
-abbrev pub have_names_apart : List MeterPlan → Bool
-have_names_apart [] = true
-have_names_apart (m ∷ ms) = list_all (λ other. not (bytes_eq m.name other.name)) ms && have_names_apart ms
+-- an action for each of the three colours
+abbrev pub HasActions : MeterPlan → Type 0
+HasActions m = length m.drops ≡ 3
 
 abbrev pub IsAddress : Prefix → Type 0
 IsAddress p = p.addr < 2 ^ 32
@@ -48,6 +40,5 @@ pub record KeepsForms (p : Plan) : Type 0 where
   pub ports : All HasSizes p.ports
   pub subport_kinds : All (λ k. HasClasses k.1) p.subport_kinds
   pub pipe_kinds : All HasWeights p.pipe_kinds
-  pub meters : All HasName p.meters
-  pub names : have_names_apart p.meters ≡ true
+  pub meters : All HasActions p.meters
   pub rules : All HasAddresses p.rules

@@ -3,6 +3,7 @@ use Rattle.std.specs.Prelude.{◌==◌, ℕ, ◌+◌, ◌-◌, ◌*◌, ◌/◌,
 use Rattle.std.specs.List.{list_all, position_or_len, before_first, after_first}
 use Rattle.std.specs.Str.{bytes_eq}
 use Rattle.profile_lines.specs.Numbers.{number_of}
+use Rattle.profile_plan.specs.Limits.{is_name_byte}
 use Rattle.qos_base.specs.declared.packet.Colour.{Colour}
 use Rattle.qos_base.specs.declared.packet.Colour.TheVariants.{Green, Yellow, Red}
 use Rattle.qos_profile.specs.declared.fault.FaultKind.{FaultKind}
@@ -167,10 +168,6 @@ code_of words =
     else (if length words == 4 && bytes_eq (word_at words 0) (codes "fixed")
     then entry_at (word_at words 1) (word_at words 2) (word_at words 3)
     else Err BadNumber)
-
--- the characters of a name: a to z, 0 to 9 and `_`
-abbrev pub is_name_byte : ℕ → Bool
-is_name_byte b = is_within 97 122 b || is_within 48 57 b || b == 95
 
 -- a name of 1 to 32 characters, as 32 bytes of which the rest are 0
 abbrev pub padded : List ℕ → Name

@@ -41,11 +41,3 @@ pub fn texts_are_read_back()
 {
     profile_print::laws::lines_are_read_back();
 }
-
-/// The profile that a text says is read back from its own text, where that is not too long.
-pub fn profiles_are_read_back()
-    ensures fault { (text : List ℕ) → fault_of_text text ≡ None → length (text_of (profile_of text)) ≤ 1048576 → fault_of_text (text_of (profile_of text)) ≡ None }
-    ensures profile { (text : List ℕ) → fault_of_text text ≡ None → profile_of (text_of (profile_of text)) ≡ record (profile_of text) { skipped = [] } }
-{
-    texts_are_read_back();
-}

@@ -1,7 +1,7 @@
 //! The profile text: the profile that a text says, or its first fault.
 //!
 //! It stands on `profile_lines` for the lines of a text, on `profile_plan` for what a profile says and on
-//! `profile_print` for its canonical text, which it gives out again.
+//! `profile_print` for its canonical text, which it gives out with what reading it says.
 #![tactic(auto)]
 
 mod across;
@@ -9,6 +9,7 @@ mod build;
 mod checking;
 mod fact;
 mod fault;
+mod forms;
 mod head;
 mod large;
 pub mod laws;
@@ -19,6 +20,7 @@ mod missing;
 mod name;
 mod naming;
 mod outline;
+mod printing;
 mod reading;
 mod section;
 mod sections;
@@ -27,8 +29,8 @@ mod value;
 
 pub use checking::{MAX_TEXT, read_profile};
 pub use fault::{FaultKind, ProfileError, ProfileFault};
+pub use printing::profile_text;
 pub use profile_plan::{
     CLASSES, CodeChoice, MeterKind, MeterPlan, MeterRate, PipeChoice, PipeKind, PoolPlan, PortPlan,
     Prefix, Profile, Proto, Rates, RulePlan, Shaping, Span, SubportPlan, VlanTest, Whole,
 };
-pub use profile_print::profile_text;

@@ -1,7 +1,7 @@
 //! A meter's name.
 ghost use Rattle.std.specs.Prelude.{◌≡◌, ◌≤◌, ◌-◌, ◌++◌, length, replicate};
 ghost use Rattle.std.specs.List.{list_all};
-ghost use Rattle.qos_profile.specs.Values.{is_name_byte};
+ghost use Rattle.profile_plan.specs.Limits.{is_name_byte};
 
 /// The longest name.
 pub(crate) const LONGEST: usize = 32;

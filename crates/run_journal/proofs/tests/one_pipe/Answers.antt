@@ -97,6 +97,7 @@ module _ (sub pipe : Whole) (place overhead drain : ℕ) (sub_is : IsWhole sub) 
     code_count = length-replicate 64 entry;
     meters = All-nil IsMeter;
     meter_count = omega arith;
+    meter_names = refl;
     rules = All-nil (IsRule (port ∷ []) []);
     rules_order = λ k below. absurd (omega arith);
   }

@@ -1,4 +1,4 @@
-use Rattle.std.proofs.Common.{◌≡◌, ℕ, ◌≤◌, List, [], ◌∷◌, All, length, false, map, IsSome, replicate, rules, arith}
+use Rattle.std.proofs.Common.{◌≡◌, ℕ, ◌≤◌, List, [], ◌∷◌, All, length, false, map, IsSome, replicate, refl, rules, arith}
 use Rattle.std.proofs.lemmas.List.Elements.{All-cons, All-nil, All-from_recursion, All-replicate}
 use Rattle.code_table.specs.Entry.{IsValid}
 use Rattle.code_table.specs.declared.entry.Entry.{Entry}
@@ -100,6 +100,7 @@ is-plan codes meter skipped valid count is_meter = record {
   code_count = count;
   meters = All-cons IsMeter meter [] is_meter (All-nil IsMeter);
   meter_count = search rules;
+  meter_names = refl;
   rules = are-rules meter;
   rules_order = rising;
 }
