@@ -1,0 +1,11 @@
+pub mod Clock
+pub mod Closed
+pub mod Drip
+pub mod Kept
+pub mod Laws
+pub mod Meter
+pub mod Rfc4115
+pub mod Setting
+pub mod SrTcm
+pub mod TrTcm
+pub mod Words
