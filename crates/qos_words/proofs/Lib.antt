@@ -1,0 +1,4 @@
+pub mod Apart
+pub mod Endings
+pub mod Six
+pub mod Terms
