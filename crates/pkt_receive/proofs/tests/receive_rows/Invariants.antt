@@ -1,0 +1,9 @@
+use Rattle.std.proofs.Common.{◌≡◌}
+use Rattle.pkt_receive.specs.Receiver.{IsReading}
+use Rattle.pkt_receive.proofs.tests.receive_rows.Given as goal
+
+abbrev pub invariant-loop-index : goal.invariant-loop-index
+invariant-loop-index g l = record {
+  reading : IsReading g.S.Source l.rx;
+  slots : l.slots.slot_bytes ≡ l.p.pool.slot_bytes;
+}

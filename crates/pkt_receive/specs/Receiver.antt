@@ -1,0 +1,109 @@
+-- What a receiver still gives, and what it has given.
+use Rattle.std.specs.Prelude.{◌≡◌, ◌⊎◌, ℕ, ◌+◌, ◌≤◌, List, [], ◌∷◌, None, Some, IfSome, MatchOption}
+use Rattle.qos_io.specs.declared.source.Source.{Ghosts}
+use Rattle.qos_base.specs.Reason.{reason_number}
+use Rattle.qos_base.specs.Time.{origin_of}
+use Rattle.qos_pcap.specs.declared.capture.Capture.{Capture}
+use Rattle.qos_pcap.specs.declared.fault.PcapFault.TheVariants.{Read}
+use Rattle.qos_pcap.specs.declared.fault.Stop.{Stop}
+use Rattle.qos_pcap.specs.declared.fault.Stop.TheVariants.{NotOpened, Fault}
+use Rattle.qos_pcap.specs.declared.head.Head.{Head}
+use Rattle.qos_pcap.specs.First.{first_stamp}
+use Rattle.qos_pcap.specs.Format.{Record}
+use Rattle.qos_pcap.specs.Given.{StillGives, given, limit_of, source_of, untaken}
+use Rattle.profile_plan.specs.Profile.{Plan}
+use Rattle.pkt_receive.specs.declared.limits.TheConstants.{MAX_RECORDS}
+use Rattle.pkt_receive.specs.declared.fate.Fate.TheVariants.{Lost}
+use Rattle.pkt_receive.specs.declared.losses.Losses.{Losses}
+use Rattle.pkt_receive.specs.declared.receive.Received.{Received}
+use Rattle.pkt_receive.specs.declared.receive.Received.TheVariants.{Admitted as Packet, Lost as Gone, Stopped as Nothing}
+use Rattle.pkt_receive.specs.declared.receive.Receiver.{Receiver}
+use Rattle.pkt_receive.specs.Fate.{fate_of, packet_if, IsPlaced}
+use Rattle.pkt_receive.specs.Losses.{counted, no_losses}
+use Rattle.pkt_receive.specs.Mbuf.{captured_in}
+
+-- a failed call stopped the reading
+abbrev pub IsReadFault : Stop → Type 0
+IsReadFault NotOpened = Unit {0}
+IsReadFault (Fault Read) = Unit {0}
+IsReadFault _ = ⊥
+
+-- What was received is this record, which has that index in an input: its packet in a slot with its body, or the reason for
+-- which it is lost.
+abbrev pub IsReceived : Plan → ℕ → ℕ → Record → Received → Type 0
+IsReceived p input index r (Packet m) = (packet_if input index r (fate_of p input r) ≡ m.pkt ∷ []) × (captured_in m ≡ r.body)
+IsReceived p input index r (Gone reason) = fate_of p input r ≡ Lost reason
+IsReceived p input index r Nothing = ⊥
+
+-- a packet that was received has a place in the profile, and a record that was lost has one of the reasons of receive
+abbrev pub HasPlace : Plan → Received → Type 0
+HasPlace p (Packet m) = IsPlaced p m.pkt
+HasPlace p (Gone reason) = reason_number reason ≤ 4
+HasPlace p Nothing = Unit {0}
+
+module _ {S : Type 0} (G : Ghosts S) where
+  -- the capture from which the next record comes: its head is read and its body is not
+  pub record IsNext (read : ℕ) (head : Head) (c : Capture S G) : Type 0 where
+    pub untaken_is : untaken c ≡ Some head
+    pub given_is : given c ≡ read + 1
+    pub limit_is : limit_of c ≡ MAX_RECORDS
+    pub place : head.index ≡ read
+    pub cap_limit : head.cap ≤ 262144
+    pub captured : head.cap ≤ head.wire
+
+  -- each record that a receiver has counted as lost was read
+  abbrev pub IsCounted : Receiver S G → Type 0
+  IsCounted rx = rx.losses.unparsed + rx.losses.unmatched + rx.losses.oversize + rx.losses.too_long ≤ rx.read
+
+  -- a receiver either has the head of its next record or has stopped
+  pub record IsReading (rx : Receiver S G) : Type 0 where
+    pub next : IfSome rx.head (λ head. MatchOption rx.capture ⊥ (IsNext rx.read head))
+    pub few : rx.read ≤ MAX_RECORDS
+    pub lost : IsCounted rx
+
+  -- where its source tells its bytes: it still gives these records, and then stops so; after a failed call nothing is said
+  abbrev pub ToCome : Receiver S G → List Record → Stop → Type 0
+  ToCome rx records stop =
+      MatchOption rx.head (IsReadFault rx.stopped ⊎ ((records ≡ []) × (rx.stopped ≡ stop)))
+      (λ head. MatchOption rx.capture ⊥ (λ c. StillGives G.remaining c records stop))
+
+  -- no read has failed, and none will
+  pub record IsFine (rx : Receiver S G) : Type 0 where
+    pub sure : IfSome rx.capture (λ c. G.IsSure (source_of c))
+    pub none_failed : IsReadFault rx.stopped → ⊥
+
+  -- what no turn changes of an input, and what stays of it
+  pub record StaysReceiver (before after : Receiver S G) : Type 0 where
+    pub input : after.input ≡ before.input
+    pub origin : after.origin ≡ before.origin
+    pub fine : IsFine before → IsFine after
+    -- one that was not opened gives no record, and one that has stopped stays as it is
+    pub opened : after.stopped ≡ NotOpened → (before.stopped ≡ NotOpened) × (after.read ≡ before.read)
+    pub still : before.head ≡ None → after ≡ before
+
+  -- what a turn that answered this has made of a receiver that still gives these records and stops so
+  abbrev pub Gives : Plan → Receiver S G → Received → ℕ → List Record → Stop → Type 0
+  Gives p after Nothing index records stop = ToCome after records stop
+  Gives p after received index records stop =
+      (r : Record) × (rest : List Record) × (records ≡ r ∷ rest) × IsReceived p after.input index r received × ToCome after rest stop
+
+-- a turn that answered this has counted the record, if it received one
+abbrev pub Counted : {S : Type 0} {G : Ghosts S} → Receiver S G → Receiver S G → Received → Type 0
+Counted before after (Packet m) = (after.read ≡ before.read + 1) × (after.losses ≡ before.losses)
+Counted before after (Gone reason) = (after.read ≡ before.read + 1) × (after.losses ≡ counted before.losses (Lost reason))
+Counted before after Nothing = (after.read ≡ before.read) × (after.losses ≡ before.losses) × (after.head ≡ None)
+
+-- the losses after a record was received so
+abbrev pub with_received : Losses → Received → Losses
+with_received losses (Gone reason) = counted losses (Lost reason)
+with_received losses _ = losses
+
+-- an input of that number, of which nothing was received yet
+pub record IsFresh (input : ℕ) {S : Type 0} {G : Ghosts S} (rx : Receiver S G) : Type 0 where
+  pub input_is : rx.input ≡ input
+  pub read_is : rx.read ≡ 0
+  pub losses_is : rx.losses ≡ no_losses
+
+-- the origin is that of a capture with these bytes, by its first head; or no head was read, and none will be
+abbrev pub HasOrigin : {S : Type 0} {G : Ghosts S} → List ℕ → Receiver S G → Type 0
+HasOrigin bytes rx = (rx.origin ≡ origin_of (first_stamp bytes MAX_RECORDS ∷ [])) ⊎ ((rx.head ≡ None) × (rx.origin ≡ 0))
