@@ -13,7 +13,7 @@ use Rattle.port_sched.specs.Sends.{total_cost, sends_from, longest_front}
 use Rattle.port_sched.specs.Level.{level_paid}
 use Rattle.port_sched.specs.Pipe.{Pipe, is_filled, has_packet, filled}
 use Rattle.port_sched.specs.Classes.{Visit, with_sent, front_sent, four_allow, best_effort_allows, share_paid, best_effort_waits, after_pick, next_front, before, picked, front_drawn, draw, draws, after_draws, strict_turn, best_effort_turn, classes_turn}
-use Rattle.port_sched.specs.Laws.{seen_send}
+use Rattle.port_sched.specs.Parcels.{seen_send}
 use Rattle.port_sched.specs.PortLaws.{seen_queues, seen_pipe}
 
 -- a choice that is looked at is the choice of what is looked at

@@ -17,7 +17,7 @@ use Rattle.port_sched.specs.Renewal.{has_seen, watermark_renewed, subport_renewe
 use Rattle.port_sched.specs.Classes.{Visit, classes_turn}
 use Rattle.port_sched.specs.Visit.{Service, cursor_after, visit_start, visit_end}
 use Rattle.port_sched.specs.PortDequeue.{Course, cost_with, subport_at, service_start, service_end, visit_next, visit, active_count, pipe_count, visits, moved_on, turn_of, dequeue_port}
-use Rattle.port_sched.specs.Laws.{itself, seen_send}
+use Rattle.port_sched.specs.Parcels.{itself, seen_send}
 use Rattle.port_sched.specs.PortLaws.{seen_queues, seen_pipe, seen_subport, seen_port, seen_course, PacketsDecide}
 use Rattle.port_sched.proofs.Along.{visit_of, visit_that, visit_in, stepped, start_of}
 use Rattle.port_sched.proofs.Carried.{cond-through, fold-through, list-seen, lists-seen, has_packet-seen, seen_visit, classes-seen}

@@ -12,7 +12,7 @@ use Rattle.qos_base.specs.declared.packet.Departure.{Departure}
 use Rattle.port_sched.specs.Sends.{total_cost, sends_from}
 use Rattle.port_sched.specs.Port.{Port, left_of}
 use Rattle.port_sched.specs.PortDequeue.{Course, cost_with, dequeue_port}
-use Rattle.port_sched.specs.Laws.{parcels}
+use Rattle.port_sched.specs.Parcels.{parcels}
 use Rattle.port_sched.specs.PortLaws.{AllWaiting, Serves, Counts, DequeueServes}
 use Rattle.port_sched.proofs.Served.{IsCourse, served}
 

@@ -19,7 +19,7 @@ use Rattle.port_sched.specs.Renewal.{has_seen, subport_renewed, share_renewed}
 use Rattle.port_sched.specs.Classes.{Visit, four_allow, best_effort_allows, best_effort_waits, after_pick, next_front, before, picked, draw, draws, after_draws, strict_turn, best_effort_turn, classes_turn}
 use Rattle.port_sched.specs.Visit.{visit_start, visit_end}
 use Rattle.port_sched.specs.PortDequeue.{Course, cost_with, service_start, dequeue_port}
-use Rattle.port_sched.specs.Laws.{parcels}
+use Rattle.port_sched.specs.Parcels.{parcels}
 use Rattle.port_sched.specs.Leaving.{fronts_of, Leaves, all_queues, front_in, front_left, FrontsAreSent}
 use Rattle.port_sched.proofs.Along.{Joins, HoldsOfSteps, classes-along, visited, stepped, dequeue-along}
 use Rattle.port_sched.proofs.Served.{longest_front-most}

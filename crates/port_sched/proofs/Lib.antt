@@ -1,10 +1,4 @@
-pub mod Sends
-pub mod Fronts
-pub mod Visits
-pub mod Turns
 pub mod Stepped
-pub mod Kept
-pub mod Seen
 pub mod Starts
 pub mod Places
 pub mod Pieces

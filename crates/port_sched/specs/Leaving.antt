@@ -3,7 +3,7 @@ use Rattle.std.specs.Prelude.{◌≡◌, ℕ, List, [], ◌∷◌, map, fold, sl
 use Rattle.qos_base.specs.declared.packet.Pkt.{Pkt}
 use Rattle.queue_store.specs.Queues.{Queues, list_of, without_front}
 use Rattle.port_sched.specs.Port.{Port, at}
-use Rattle.port_sched.specs.Laws.{parcels}
+use Rattle.port_sched.specs.Parcels.{parcels}
 use Rattle.port_sched.specs.PortDequeue.{dequeue_port}
 
 -- a queue of a port: the numbers of its subport, of its pipe there, and of the queue

@@ -1,7 +1,4 @@
-pub mod PortState
-pub mod Dequeue
-pub mod Laws
-pub mod Plain
+pub mod Parcels
 pub mod Sends
 pub mod Level
 pub mod Pipe

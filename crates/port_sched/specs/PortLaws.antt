@@ -10,7 +10,7 @@ use Rattle.port_sched.specs.Subport.{Subport}
 use Rattle.port_sched.specs.Port.{Port, left_of, queued, has_place, is_full, after_arrival}
 use Rattle.port_sched.specs.PortDequeue.{Course, cost_with, dequeue_port}
 use Rattle.port_sched.specs.Settings.{IsPortWithin}
-use Rattle.port_sched.specs.Laws.{itself, parcels, seen_send}
+use Rattle.port_sched.specs.Parcels.{itself, parcels, seen_send}
 
 module _ {T : Type 0} where
   -- every parcel that waits is such

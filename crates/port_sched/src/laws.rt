@@ -1,7 +1,5 @@
 //! Laws of the definitions. These functions do nothing; each has a law as its contract.
 ghost use Rattle.std.specs.Prelude.{ℕ};
-ghost use Rattle.port_sched.specs.PortState.{PortState};
-ghost use Rattle.port_sched.specs.Laws.{DequeueLaws};
 ghost use Rattle.port_sched.specs.Port.{Port};
 ghost use Rattle.port_sched.specs.Leaving.{FrontsAreSent};
 ghost use Rattle.port_sched.specs.PortLaws.{ArrivalJoins, DequeueServes, PacketsDecide};
@@ -17,12 +15,6 @@ ghost use Rattle.port_sched.specs.TurnLaws.{TurnsEnd};
 use active_bitmap::laws::next_is_nearest;
 use qos_base::Parcel;
 use wrr_pick::laws::picked_queue_has_no_tokens;
-
-/// What a dequeue sends was at the front of the queue, each send takes as long as its packet costs, and
-/// what carries a packet has no part in the schedule.
-pub fn dequeues_keep<T: Parcel>()
-    ensures { (now room : ℕ) (s : PortState T) → DequeueLaws T.packet now room s }
-{}
 
 /// What waits is sent or waits still, each parcel once, and port time grows by what the sends cost.
 pub fn dequeues_serve<T: Parcel>()

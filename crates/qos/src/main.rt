@@ -1,4 +1,4 @@
-//! The program: `qos run IN OUT LINE SIZE CREDITS PERIOD` puts one capture through one token bucket.
+//! The program: `qos run --profile FILE --out PREFIX CAPTURE` puts one capture through the ports of a profile.
 //!
 //! It hands its words, the system's files and standard output to `qos_top` of the crate `qos_main`, whose contract
 //! says what a run comes to, and ends with the status that it answers.

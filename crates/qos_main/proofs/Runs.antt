@@ -1,217 +1,218 @@
--- The run of a port stays sound.
-use Rattle.qos_main.proofs.Names.{after_entry_of, ◌≡◌, ◌<◌, ◌≤◌, ◌^◌, ℕ, ◌+◌, Bool, true, false, List, [], ◌∷◌, ◌++◌}
-use Rattle.qos_main.proofs.Names.{length, map, nat_lt, refl, sym}
-use Rattle.qos_main.proofs.Names.{ap, ◌∙◌, ⊎_elim, length-append, arith, length-map, map-append, All-push, cases_lt, false≢true}
-use Rattle.qos_main.proofs.Names.{ltb-true, Pkt, Departure, MTU, QUEUE_SIZE, PortState, start_of, after_arrival, Dequeued, dequeue}
-use Rattle.qos_main.proofs.Names.{itself, parcels, AreWithin, seen_port, seen_send, DequeueLaws, MAX_RECORDS, Plan, Entry, Arrive}
-use Rattle.qos_main.proofs.Names.{Dequeue, Schedule, after_entry, schedule_of, arrivals_of, PacerState, new_pacer, RunState, IsSound}
-use Rattle.qos_main.proofs.Names.{HasDequeued, Shaper, EveryArrivalEnds}
-use Rattle.qos_main.specs.declared.tally.Tally.{Tally}
-use Rattle.qos_main.specs.Plan.{IsPlan}
-use Rattle.qos_main.proofs.Schedules.{schedule_of-push, arrivals_of-dequeue, arrivals_of-arrive, dequeues_in-append}
-use Rattle.qos_main.proofs.Choices.{if-lt, if-ge, All-right}
-use Rattle.qos_main.proofs.Ends.{ends-counted}
+-- What a run comes to, from what its parts did.
+use Rattle.std.proofs.Common.{◌≡◌, ◌∙◌, ◌⊎◌, ◌≤◌, inl, inr, ℕ, Bool, true, List, [], ◌∷◌, length, slice_get, Some, None, Result, Ok}
+use Rattle.std.proofs.Common.{Err, OnErr, refl, sym, ap, subst, arith}
+use Rattle.std.specs.Option.{option_map}
+use Rattle.std.specs.List.{Contains}
+use Rattle.std.proofs.lemmas.Option.{slice_get-map}
+use Rattle.qos_base.specs.Time.{origin_of}
+use Rattle.qos_io.specs.Bytes.{bytes_in}
+use Rattle.qos_io.specs.Shelves.{ChangesOnly}
+use Rattle.qos_io.specs.declared.shelf.Shelf.{Ghosts}
+use Rattle.qos_io.specs.declared.source.Source.{Ghosts as Sources}
+use Rattle.qos_pcap.specs.declared.fault.Stop.{Stop}
+use Rattle.qos_pcap.specs.declared.fault.Stop.TheVariants.{NotOpened}
+use Rattle.qos_pcap.specs.First.{first_stamp}
+use Rattle.qos_pcap.specs.Format.{Record}
+use Rattle.qos_pcap.specs.Reads.{Reads, ReadsOneWay}
+use Rattle.profile_plan.specs.Profile.{Plan}
+use Rattle.pkt_receive.specs.declared.limits.TheConstants.{MAX_RECORDS}
+use Rattle.pkt_receive.specs.declared.receive.Receiver.{Receiver}
+use Rattle.pkt_receive.specs.Fate.{admitted, to_port}
+use Rattle.pkt_receive.specs.Losses.{losses_of}
+use Rattle.pkt_receive.specs.Receiver.{HasOrigin, IsFine, IsFresh, IsReadFault, StaysReceiver, ToCome}
+use Rattle.port_files.specs.Among.{ChangesAmong, ChangesAmong-then, ChangesAmong-unchanged, ChangesAmong-wider}
+use Rattle.port_files.specs.Change.{FileChange}
+use Rattle.run_journal.specs.declared.ended.PortEnd.{PortEnd}
+use Rattle.run_journal.specs.Schedule.{arrivals_of}
+use Rattle.qos_pipeline.specs.PortEnds.{AreLeft, ArePortEnds, AreWritten, journals}
+use Rattle.qos_pipeline.specs.Since.{AreLeft-since, AreWritten-since}
+use Rattle.qos_pipeline.specs.Took.{IsSummed, Took}
+use Rattle.qos_words.specs.Names.{output_name, output_names}
+use Rattle.qos_words.specs.Words.{Asked}
+use Rattle.qos_main.specs.declared.ended.InputEnd.{InputEnd}
+use Rattle.qos_main.specs.declared.status.Status.{Status}
+use Rattle.qos_main.specs.Ended.{IsEndOf, sums_over}
+use Rattle.qos_main.specs.Run.{HasRefused, IsOutcome, IsRefused, IsRun, capture_on, changes_of}
+use Rattle.qos_main.specs.Status.{status_for}
+use Rattle.qos_main.proofs.Accounts.{is-account}
 
--- each arrival of a journal is sent, waits or is turned away
-abbrev Ends : Type 0
-Ends = (shaper : Shaper) (journal : List Entry) → EveryArrivalEnds shaper journal
+nothing-is : {A : Type 0} (xs : List A) → length xs ≡ 0 → xs ≡ []
+nothing-is [] is = refl
+nothing-is (x ∷ xs) is = absurd (omega (arith, is))
 
-module _ {T : Type 0} (packet : T → Pkt) where
-  -- a port at its start
-  fresh : (plan : Plan) → IsPlan plan → IsSound packet plan (start_of plan.shaper) (new_pacer plan.quantum) []
-      (record { arrived = 0; dropped = 0; dequeues = 0 })
-  unfolding schedule_of
-  fresh plan plan_is = record {
-    plan_is = plan_is;
-    port_is = refl;
-    went_is = refl;
-    quantum_is = refl;
-    tally_is = record { arrived = refl; dropped = refl; dequeues = refl };
-    account = refl;
-    few = omega arith;
-    short = λ k d no. absurd (omega arith);
-    time = omega arith;
+-- What the opening of an input has done to a shelf, and the receiver that it made.
+pub record HasOpened {H In Out : Type 0} (G : Ghosts H In Out) (F : Sources In) (name : List ℕ) (old mid : H) (rx : Receiver In F)
+    : Type 0 where
+  pub told : G.Tells old → (records : List Record) (stop : Stop) → Reads (bytes_in (G.file old name)) MAX_RECORDS records stop
+      → ToCome F rx records stop
+  pub origin : G.Tells old → HasOrigin (bytes_in (G.file old name)) rx
+  pub absent : G.Tells old → G.file old name ≡ None → (G.IsSureToRead old name → ⊥) → (rx.head ≡ None) × (rx.stopped ≡ NotOpened)
+  pub fresh : IsFresh 0 rx
+  pub fine : G.IsSureToRead old name → IsFine F rx
+  pub kept : ChangesAmong G [] old mid
+
+-- an input that has no head gives no record, or nothing is said of what it gives
+none-to-come : {S : Type 0} (F : Sources S) (rx : Receiver S F) (records : List Record) (stop : Stop) → rx.head ≡ None
+    → ToCome F rx records stop → ToCome F rx [] stop
+none-to-come F rx records stop none come =
+    let either : IsReadFault rx.stopped ⊎ ((records ≡ []) × (rx.stopped ≡ stop)) = rw none at come in
+    rw none (elim either [ inl fault ↦ inl fault | inr done ↦ inr (refl, done.1) ])
+
+module _ {H In Out : Type 0} (G : Ghosts H In Out) (command : Asked) (p : Plan) (old mid : H) (one_way : ReadsOneWay) where
+  none-named : (name : List ℕ) → Contains [] name → ⊥
+  none-named name among = absurd (omega (arith, among.1))
+
+  among-outputs : ChangesAmong G [] old mid → ChangesAmong G (output_names command.prefix (length p.ports)) old mid
+  among-outputs changes = ChangesAmong-wider (λ n among. absurd (none-named n among)) changes
+
+  -- memory was refused before an output was tried
+  pub refused-early : ChangesAmong G [] old mid → HasRefused G command p old mid
+  refused-early kept = record {
+    left = λ tells.
+        let read = one_way.some (capture_on G command old) MAX_RECORDS in
+        record {
+          records = read.0;
+          stop = read.1;
+          reads = read.2;
+          seen = [];
+          origin = 0;
+          seen_is = inr refl;
+          left = λ n plan here. inl (record {
+            file = inl (kept.files (output_name command.prefix n) (none-named (output_name command.prefix n)));
+            closed = kept.closed tells (output_name command.prefix n) (none-named (output_name command.prefix n));
+          });
+        };
+    files = among-outputs kept;
   }
 
-  pub IsSound-new : (plan : Plan) (port : PortState T) (pacer : PacerState) (journal : List Entry) → IsPlan plan
-      → port ≡ start_of plan.shaper → pacer ≡ new_pacer plan.quantum → journal ≡ []
-      → IsSound packet plan port pacer journal (record { arrived = 0; dropped = 0; dequeues = 0 })
-  IsSound-new plan port pacer journal plan_is starts paces empty =
-      rw (starts, paces, empty) (fresh plan plan_is)
+module _ {H In Out : Type 0} (G : Ghosts H In Out) (F : Sources In) (command : Asked) (p : Plan) (old mid new : H) (one_way : ReadsOneWay)
+    (rx : Receiver In F) (opened : HasOpened G F command.capture old mid rx)
+    (others : ChangesAmong G (output_names command.prefix (length p.ports)) mid new) where
+  files-are : ChangesAmong G (output_names command.prefix (length p.ports)) old new
+  files-are = ChangesAmong-then (among-outputs G command p old mid one_way opened.kept) others
 
-  module _ (plan : Plan) (port : PortState T) (pacer : PacerState) (journal : List Entry) (tally : Tally) where
-    pub sends-few : IsSound packet plan port pacer journal tally → length (schedule_of plan.shaper journal).sends ≤ MAX_RECORDS
-    sends-few sound = omega (arith, sound.account, sound.few, sound.tally_is.arrived)
+  abbrev Left : List Record → Type 0
+  Left records = AreLeft p rx.origin 0 records (changes_of G command old new)
 
-    pub time-fits : IsSound packet plan port pacer journal tally → port.time ≤ 2 ^ 62
-    time-fits sound = omega (arith, sends-few sound, sound.time)
+  seen-left : (records : List Record) (stop : Stop) → Reads (capture_on G command old) MAX_RECORDS records stop
+      → HasOrigin (capture_on G command old) rx → ToCome F rx records stop
+      → ((records : List Record) (stop : Stop) → ToCome F rx records stop → Left records) → IsRefused G command p old new
+  seen-left records stop reads (inl origin) come left = record {
+    records = records;
+    stop = stop;
+    reads = reads;
+    seen = records;
+    origin = rx.origin;
+    seen_is = inl (refl, origin);
+    left = left records stop come;
+  }
+  seen-left records stop reads (inr none) come left = record {
+    records = records;
+    stop = stop;
+    reads = reads;
+    seen = [];
+    origin = rx.origin;
+    seen_is = inr refl;
+    left = left [] stop (none-to-come F rx records stop none.0 come);
+  }
 
-    pub dropped-few : IsSound packet plan port pacer journal tally → tally.dropped ≤ MAX_RECORDS
-    dropped-few sound = omega (arith, sound.account, sound.few, sound.tally_is.arrived, sound.tally_is.dropped)
+  -- memory was refused with the outputs
+  pub refused-late : (G.Tells mid → (records : List Record) (stop : Stop) → ToCome F rx records stop
+      → AreLeft p rx.origin 0 records (changes_of G command mid new)) → HasRefused G command p old new
+  refused-late left = record {
+    left = λ tells.
+        let read = one_way.some (capture_on G command old) MAX_RECORDS in
+        seen-left read.0 read.1 read.2 (opened.origin tells) (opened.told tells read.0 read.1 read.2)
+        (λ records stop come.
+        AreLeft-since tells opened.kept others.never_falls (output_name command.prefix) p rx.origin 0 records
+        (left (opened.kept.tells.1 tells) records stop come));
+    files = files-are;
+  }
 
-    abbrev before : Schedule
-    before = schedule_of plan.shaper journal
+-- what the run with its outputs has come to
+pub record HasRun {S : Type 0} {F : Sources S} (p : Plan) (first rx : Receiver S F) (ports : List PortEnd) : Type 0 where
+  pub count : length ports ≡ length p.ports
+  pub ends : ArePortEnds p first.origin ports
+  pub summed : IsSummed rx (journals ports)
+  pub stays : StaysReceiver F first rx
 
-    module _ (now : ℕ) where
-      abbrev journal_after : List Entry
-      journal_after = journal ++ Dequeue now plan.burst ∷ []
+module _ {S : Type 0} {F : Sources S} (bytes : List ℕ) (p : Plan) (first rx : Receiver S F) (fresh : IsFresh 0 first)
+    (ports : List PortEnd) (run : HasRun p first rx ports) (input : InputEnd) (numbers : IsEndOf rx (sums_over ports) input) where
+  -- where no first head was read, nothing was given
+  origin-is : (given : List Record) → HasOrigin bytes first → rx.read ≡ length given
+      → (first.origin ≡ origin_of (first_stamp bytes MAX_RECORDS ∷ [])) ⊎ (given ≡ [])
+  origin-is given (inl is) read = inl is
+  origin-is given (inr none) read =
+      inr (nothing-is given (sym read ∙ ap (λ (r : Receiver S F). r.read) (run.stays.still none.0) ∙ fresh.read_is))
 
-      abbrev made : Dequeued T
-      made = dequeue packet now plan.burst port
+  pub is-outcome : (change : ℕ → FileChange) (status : ℕ) (inputs : List InputEnd) (faults : List Bool) (records : List Record)
+      (stop : Stop) → Reads bytes MAX_RECORDS records stop → HasOrigin bytes first → Took p records stop rx (journals ports)
+      → AreWritten p first.origin records change ports faults
+      → IsOutcome p bytes change input (record { status = status; ports = ports; inputs = inputs; write_fault = faults })
+  is-outcome change status inputs faults records stop reads origin took written =
+      let given : List Record = took.given in
+      let first_input : rx.input ≡ 0 = run.stays.input ∙ fresh.input_is in
+      let losses : rx.losses ≡ losses_of p 0 given = subst (λ (i : ℕ). rx.losses ≡ losses_of p i given) first_input took.losses in
+      record {
+        records = records;
+        stop = stop;
+        reads = reads;
+        given = given;
+        rest = took.rest;
+        parts = took.parts;
+        stopped = rw numbers.stopped took.stopped;
+        not_opened = λ is. nothing-is given (sym took.read ∙ (run.stays.opened (sym numbers.stopped ∙ is)).1 ∙ fresh.read_is);
+        origin = first.origin;
+        origin_is = origin-is given origin took.read;
+        merge = λ n end at.
+            subst (λ (i : ℕ). arrivals_of end.journal ≡ to_port n (admitted p i given)) first_input
+            (took.merge n end.journal
+            (slice_get-map (λ (e : PortEnd). e.journal) ports n ∙ ap (option_map (λ (e : PortEnd). e.journal)) at));
+        ports = run.ends;
+        outputs = written;
+        account = is-account p first.origin given rx ports input numbers run.count run.ends run.summed took.read losses;
+      }
 
-      module _ (sound : IsSound packet plan port pacer journal tally) (laws : DequeueLaws packet now plan.burst port) where
-        step : schedule_of plan.shaper journal_after ≡ after_entry before (Dequeue now plan.burst)
-        step = schedule_of-push plan.shaper journal (Dequeue now plan.burst)
+-- what holds anyway holds of a failure
+pub on_err : {A E P : Type 0} (r : Result A E) → P → OnErr r P
+on_err (Ok x) p = tt
+on_err (Err e) p = p
 
-        -- the sends, in the words of the schedule
-        sends-made : map (seen_send packet) made.sends ≡ (dequeue itself now plan.burst before.port).sends
-        sends-made = laws.seen_sends ∙ ap (λ (s : PortState Pkt). (dequeue itself now plan.burst s).sends) sound.port_is
+-- a call that changes no file and closes nothing
+pub kept-of : {H In Out : Type 0} (G : Ghosts H In Out) {old mid : H} → ChangesOnly G None old mid
+    → (G.Tells old → G.closed mid ≡ G.closed old) → G.faults old ≤ G.faults mid → ChangesAmong G [] old mid
+kept-of G others closed on = ChangesAmong-unchanged [] others closed on
 
-        count-made : length (dequeue itself now plan.burst before.port).sends ≡ length made.sends
-        count-made = ap length (sym sends-made) ∙ length-map made.sends (seen_send packet)
-
-        state-made : seen_port packet made.state ≡ (dequeue itself now plan.burst before.port).state
-        state-made = laws.seen_state ∙ ap (λ (s : PortState Pkt). (dequeue itself now plan.burst s).state) sound.port_is
-
-        pub schedule-sends : (schedule_of plan.shaper journal_after).sends ≡ before.sends ++ map (seen_send packet) made.sends
-        schedule-sends = ap (λ (s : Schedule). s.sends) step ∙ ap (λ ds. before.sends ++ ds) (sym sends-made)
-
-        pub schedule-went : (schedule_of plan.shaper journal_after).went ≡ nat_lt 0 (length made.sends)
-        schedule-went = ap (λ (s : Schedule). s.went) step ∙ ap (nat_lt 0) count-made
-
-        schedule-port : seen_port packet made.state ≡ (schedule_of plan.shaper journal_after).port
-        schedule-port = state-made ∙ sym (ap (λ (s : Schedule). s.port) step)
-
-        -- a dequeue that sent something leaves port time past its moment
-        pub past_now : nat_lt 0 (length made.sends) ≡ true → now < (schedule_of plan.shaper journal_after).port.time
-        past_now some =
-            omega (arith, laws.keeps.no_sooner, ap (λ (s : PortState Pkt). s.time) schedule-port, ltb-true 0 (length made.sends) some)
-
-        pub IsSound-dequeued : Ends → (next : PortState T) (after : PacerState) (sent : ℕ) → now ≤ 2 ^ 57 → next ≡ made.state
-            → sent ≡ length made.sends
-            → after ≡ record pacer { went = nat_lt 0 sent }
-            → IsSound packet plan next after journal_after (record tally { dequeues = tally.dequeues + 1 })
-        IsSound-dequeued ends next after sent in_time next_is count after_is =
-            let queue = All-right (λ (x : T). (packet x).wire ≤ MTU)
-            (parcels made.sends) made.state.queue port.queue laws.keeps.order sound.short in
-            record {
-              plan_is = sound.plan_is;
-              port_is = rw next_is schedule-port;
-              went_is = rw (after_is, count) (sym schedule-went);
-              quantum_is = rw after_is sound.quantum_is;
-              tally_is = record {
-                arrived = sound.tally_is.arrived ∙ sym (ap length (arrivals_of-dequeue journal now plan.burst));
-                dropped = sound.tally_is.dropped ∙ sym (ap (λ (s : Schedule). length s.drops) step);
-                dequeues = omega (arith, sound.tally_is.dequeues, dequeues_in-append journal (Dequeue now plan.burst ∷ []));
-              };
-              account = ends-counted (arrivals_of journal_after) (schedule_of plan.shaper journal_after) (ends plan.shaper journal_after);
-              few = sound.few;
-              short = rw next_is queue;
-              time = omega (
-                arith,
-                laws.keeps.no_later MTU sound.short,
-                sound.time,
-                ap (λ (s : PortState T). s.time) next_is,
-                ap length schedule-sends,
-                length-append before.sends (map (seen_send packet) made.sends),
-                length-map made.sends (seen_send packet),
-                in_time,
-              );
-            }
-
-        -- what a contract sees of the run then
-        pub HasDequeued-made : (next : PortState T) (after : PacerState) (sent : ℕ) (pushed : List Entry) (out : List (Departure T))
-            → next ≡ made.state → sent ≡ length made.sends → after ≡ record pacer { went = nat_lt 0 sent } → pushed ≡ journal_after
-            → out ≡ made.sends → HasDequeued packet now (record { plan = plan; journal = journal; pacer = pacer; waiting = port.queue })
-            (record { plan = plan; journal = pushed; pacer = after; waiting = next.queue }) out
-        HasDequeued-made next after sent pushed out next_is count after_is pushed_is out_is =
-            let told : after.went ≡ nat_lt 0 (length made.sends) = ap (λ (p : PacerState). p.went) after_is ∙ ap (nat_lt 0) count in
-            let went : nat_lt 0 sent ≡ (schedule_of plan.shaper journal_after).went = ap (nat_lt 0) count ∙ sym (schedule-went) in
-            record {
-              state = rw (pushed_is, after_is, went);
-              sends = rw (pushed_is, out_is) schedule-sends;
-              order = rw (out_is, next_is) laws.keeps.order;
-              moves_on = λ is. rw pushed_is (past_now (sym told ∙ is));
-            }
-
-  -- after an arrival that joined the queue, or was turned away
-  module _ (plan : Plan) (port next : PortState T) (pacer : PacerState) (journal : List Entry) (tally : Tally) (t : T) where
-    abbrev arrivals_after : List Entry
-    arrivals_after = journal ++ Arrive (packet t) ∷ []
-
-    abbrev was : Schedule
-    was = schedule_of plan.shaper journal
-
-    waited : IsSound packet plan port pacer journal tally → length port.queue ≡ length was.port.queue
-    waited sound = sym (length-map port.queue packet) ∙ ap (λ (s : PortState Pkt). length s.queue) sound.port_is
-
-    -- after an arrival that makes this schedule, which sends nothing
-    arrived : Ends → (s : Schedule) (dropped : ℕ) → IsSound packet plan port pacer journal tally → tally.arrived < MAX_RECORDS
-        → schedule_of plan.shaper arrivals_after ≡ s
-        → s.sends ≡ was.sends → s.went ≡ was.went → seen_port packet next ≡ s.port → next.time ≡ port.time
-        → AreWithin packet MTU next.queue → dropped ≡ length s.drops
-        → IsSound packet plan next pacer arrivals_after
-        (record { arrived = tally.arrived + 1; dropped = dropped; dequeues = tally.dequeues })
-    arrived ends s dropped sound few step sends went seen same_time short dropped_is =
-        let same_sends : length (schedule_of plan.shaper arrivals_after).sends ≡ length was.sends =
-        ap (λ (x : Schedule). length x.sends) step ∙ ap length sends in
-        record {
-          plan_is = sound.plan_is;
-          port_is = seen ∙ sym (ap (λ (x : Schedule). x.port) step);
-          went_is = sound.went_is ∙ sym (ap (λ (x : Schedule). x.went) step ∙ went);
-          quantum_is = sound.quantum_is;
-          tally_is = record {
-            arrived = omega (
-              arith,
-              sound.tally_is.arrived,
-              length-append (arrivals_of journal) (packet t ∷ []),
-              ap length (arrivals_of-arrive journal (packet t)),
-            );
-            dropped = dropped_is ∙ sym (ap (λ (x : Schedule). length x.drops) step);
-            dequeues = omega (arith, sound.tally_is.dequeues, dequeues_in-append journal (Arrive (packet t) ∷ []));
-          };
-          account = ends-counted (arrivals_of arrivals_after) (schedule_of plan.shaper arrivals_after) (ends plan.shaper arrivals_after);
-          few = omega (arith, few);
-          short = short;
-          time = omega (arith, sound.time, same_time, same_sends);
-        }
-
-    pub IsSound-joined : Ends → IsSound packet plan port pacer journal tally → tally.arrived < MAX_RECORDS → (packet t).wire ≤ MTU
-        → length port.queue < QUEUE_SIZE
-        → next ≡ after_arrival t port → IsSound packet plan next pacer arrivals_after (record tally { arrived = tally.arrived + 1 })
-    IsSound-joined ends sound few short_one room is =
-        let fits : length was.port.queue < QUEUE_SIZE = rw (← waited sound) room in
-        let made : Schedule = record was { port = after_arrival (packet t) was.port } in
-        arrived ends made tally.dropped sound few
-        (schedule_of-push plan.shaper journal (Arrive (packet t)) ∙ if-lt (length was.port.queue) QUEUE_SIZE _ _ fits) refl refl
-        (ap (seen_port packet) is ∙ ap (λ ps. record (seen_port packet port) { queue = ps }) (map-append packet port.queue (t ∷ []))
-        ∙ ap (after_arrival (packet t)) sound.port_is)
-        (ap (λ (s : PortState T). s.time) is)
-        (rw is (All-push (λ (x : T). (packet x).wire ≤ MTU) port.queue t sound.short short_one)) sound.tally_is.dropped
-
-    pub IsSound-turned_away : Ends → IsSound packet plan port pacer journal tally → tally.arrived < MAX_RECORDS
-        → QUEUE_SIZE ≤ length port.queue → next ≡ port
-        → IsSound packet plan next pacer arrivals_after
-        (record { arrived = tally.arrived + 1; dropped = tally.dropped + 1; dequeues = tally.dequeues })
-    IsSound-turned_away ends sound few full is =
-        let full_there : QUEUE_SIZE ≤ length was.port.queue = rw (← waited sound) full in
-        let made : Schedule = record was { drops = was.drops ++ packet t ∷ [] } in
-        arrived ends made (tally.dropped + 1) sound few
-        (schedule_of-push plan.shaper journal (Arrive (packet t)) ∙ if-ge (length was.port.queue) QUEUE_SIZE _ _ full_there) refl refl
-        (ap (seen_port packet) is ∙ sound.port_is) (ap (λ (s : PortState T). s.time) is)
-        (rw is sound.short)
-        (ap (λ n. n + 1) sound.tally_is.dropped ∙ sym (length-append was.drops (packet t ∷ [])))
-
--- a queue that turned a packet away is full
-pub is_full : (waits : ℕ) → (waits < QUEUE_SIZE → false ≡ true) → QUEUE_SIZE ≤ waits
-is_full waits refused = ⊎_elim (λ (below : waits < QUEUE_SIZE). absurd (false≢true (refused below)))
-    (λ (full : QUEUE_SIZE ≤ waits). full) (cases_lt waits QUEUE_SIZE)
-
--- what a contract sees of a run after an entry that leaves the pacer as it is
-pub arrived-view : {T : Type 0} (plan : Plan) (journal : List Entry) (pacer : PacerState) (entry : Entry) (waiting : List T)
-    → pacer.went ≡ (schedule_of plan.shaper (journal ++ entry ∷ [])).went
-    → ◌≡◌ {A = RunState T} (record { plan = plan; journal = journal ++ entry ∷ []; pacer = pacer; waiting = waiting })
-    (after_entry_of (record { plan = plan; journal = journal; pacer = pacer; waiting = waiting }) entry waiting)
-arrived-view {T} plan journal pacer entry waiting went =
-    ap (λ (b : Bool). let seen : RunState T =
-    record { plan = plan; journal = journal ++ entry ∷ []; pacer = record pacer { went = b }; waiting = waiting } in seen) went
+-- the run of a command over its profile, where memory was not refused
+module _ {H In Out : Type 0} (G : Ghosts H In Out) (F : Sources In) (command : Asked) (p : Plan) (old mid new : H) (one_way : ReadsOneWay)
+    (first rx : Receiver In F) (opened : HasOpened G F command.capture old mid first) (ports : List PortEnd) (faults : List Bool)
+    (run : HasRun p first rx ports) (input : InputEnd) (numbers : IsEndOf rx (sums_over ports) input)
+    (others : ChangesAmong G (output_names command.prefix (length p.ports)) mid new) where
+  pub is-run : (status : Status) (number : ℕ) → length faults ≡ length p.ports → status ≡ status_for rx.stopped faults
+      → ((n : ℕ) → G.IsSureToWrite mid (output_name command.prefix n) → slice_get faults n ≡ Some true → ⊥)
+      → (G.Tells mid → (records : List Record) (stop : Stop) → ToCome F first records stop
+      → Took p records stop rx (journals ports))
+      → (G.Tells mid → (records : List Record) (stop : Stop) → ToCome F first records stop
+      → AreWritten p first.origin records (changes_of G command mid new) ports faults)
+      → IsRun G command p old new status (record { status = number; ports = ports; inputs = input ∷ []; write_fault = faults })
+  is-run status number count status_is sure took written = record {
+    input = input;
+    one_input = refl;
+    ports = run.count;
+    faults = count;
+    status_is = status_is ∙ ap (λ (stop : Stop). status_for stop faults) (sym numbers.stopped);
+    read = λ readable fault. (run.stays.fine (opened.fine readable)).none_failed (rw numbers.stopped at fault);
+    absent = λ tells none unsure.
+        let first_is = opened.absent tells none unsure in
+        numbers.stopped ∙ ap (λ (r : Receiver In F). r.stopped) (run.stays.still first_is.0) ∙ first_is.1;
+    write = λ n writable. sure n ((opened.kept.same_to_write (output_name command.prefix n)).1 writable);
+    outcome = λ tells.
+        let read = one_way.some (capture_on G command old) MAX_RECORDS in
+        let come : ToCome F first read.0 read.1 = opened.told tells read.0 read.1 read.2 in
+        let told : G.Tells mid = opened.kept.tells.1 tells in
+        is-outcome (capture_on G command old) p first rx opened.fresh ports run input numbers (changes_of G command old new) number
+        (input ∷ []) faults read.0 read.1 read.2 (opened.origin tells) (took told read.0 read.1 come)
+        (AreWritten-since tells opened.kept others.never_falls (output_name command.prefix) p first.origin read.0 ports faults
+        (written told read.0 read.1 come));
+    files = files-are G F command p old mid new one_way first opened others;
+  }

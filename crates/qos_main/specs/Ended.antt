@@ -1,36 +1,36 @@
--- How what a run came to is put together.
-use Rattle.std.specs.Prelude.{◌≡◌, ◌≤◌, [], ◌∷◌, vec_capacity}
+-- The numbers of an input, of which some are sums over the ports.
+use Rattle.std.specs.Prelude.{◌≡◌, ℕ, ◌+◌, List, [], ◌∷◌}
+use Rattle.std.specs.List.{sum_by}
 use Rattle.qos_io.specs.declared.source.Source.{Ghosts}
-use Rattle.qos_main.specs.declared.ended.PortCounts.{PortCounts}
+use Rattle.pkt_receive.specs.declared.receive.Receiver.{Receiver}
+use Rattle.run_journal.specs.declared.ended.PortEnd.{PortEnd}
 use Rattle.qos_main.specs.declared.ended.InputEnd.{InputEnd}
-use Rattle.qos_main.specs.declared.plan.Plan.{Plan}
-use Rattle.qos_main.specs.declared.receive.Receiver.{Receiver}
-use Rattle.qos_main.specs.declared.top.Prepared.{Prepared}
-use Rattle.qos_main.specs.declared.top.Lists.{Lists}
-use Rattle.qos_main.specs.PortRun.{new_run}
+use Rattle.qos_main.specs.declared.run.Sums.{Sums}
 
--- the lists of an end, empty and with room for one place each
-pub record HasRoom (lists : Lists) : Type 0 where
-  pub ports : lists.ports.items ≡ []
-  pub ports_room : 1 ≤ vec_capacity lists.ports
-  pub inputs : lists.inputs.items ≡ []
-  pub inputs_room : 1 ≤ vec_capacity lists.inputs
-  pub write_fault : lists.write_fault.items ≡ []
-  pub write_fault_room : 1 ≤ vec_capacity lists.write_fault
+-- how many packets of a port were sent, wait or were turned away
+abbrev pub ended_at : PortEnd → ℕ
+ended_at end = end.counts.sent + end.counts.left + end.counts.tailfull + end.counts.unwritten
 
--- what a run with this plan needs of memory is there
-pub record IsPrepared (plan : Plan) (prepared : Prepared) : Type 0 where
-  pub port : prepared.port ≡ new_run plan
-  pub empty : prepared.out.items ≡ []
-  pub room : plan.burst ≤ vec_capacity prepared.out
-  pub lists : HasRoom prepared.lists
+-- the sums of the numbers of these ports
+abbrev pub sums_over : List PortEnd → Sums
+sums_over ends = record {
+  sent = sum_by (λ end. end.counts.sent) ends;
+  left = sum_by (λ end. end.counts.left) ends;
+  tailfull = sum_by (λ end. end.counts.tailfull) ends;
+  unwritten = sum_by (λ end. end.counts.unwritten) ends;
+}
 
--- the numbers of an input whose packets came to these numbers of the port
-pub record IsEndOf {S : Type 0} {F : Ghosts S} (rx : Receiver S F) (counts : PortCounts) (end : InputEnd) : Type 0 where
+-- the reasons' numbers, in their order: no slot is wanted and nothing is policed, and the tails of queues are the ports'
+abbrev pub reasons_of : {S : Type 0} {F : Ghosts S} → Receiver S F → Sums → List ℕ
+reasons_of rx sums =
+    rx.losses.unparsed ∷ rx.losses.unmatched ∷ rx.losses.oversize ∷ rx.losses.too_long ∷ 0 ∷ 0 ∷ sums.tailfull ∷ []
+
+-- the numbers of an input whose packets came to these sums
+pub record IsEndOf {S : Type 0} {F : Ghosts S} (rx : Receiver S F) (sums : Sums) (end : InputEnd) : Type 0 where
   pub read : end.read ≡ rx.read
-  pub sent : end.sent ≡ counts.sent
-  pub left : end.left ≡ counts.left
-  pub reasons : end.reasons ≡ 0 ∷ 0 ∷ rx.oversize ∷ rx.too_long ∷ 0 ∷ 0 ∷ counts.tailfull ∷ []
-  pub unwritten : end.unwritten ≡ counts.unwritten
+  pub sent : end.sent ≡ sums.sent
+  pub left : end.left ≡ sums.left
+  pub reasons : end.reasons ≡ reasons_of rx sums
+  pub unwritten : end.unwritten ≡ sums.unwritten
   pub unslotted : end.unslotted ≡ []
   pub stopped : end.stopped ≡ rx.stopped

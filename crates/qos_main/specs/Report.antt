@@ -1,5 +1,6 @@
 -- The report: its text, how its putting may end, and the status that the program then ends with.
 use Rattle.std.specs.Prelude.{◌≡◌, ℕ, ◌+◌, codes, List, [], ◌∷◌, ◌++◌, Option}
+use Rattle.qos_io.specs.declared.sink.Sink.{Ghosts}
 use Rattle.qos_io.specs.Bytes.{held_after, PutSome}
 use Rattle.qos_io.specs.Fault.{HasRisen}
 use Rattle.qos_main.specs.declared.status.Status.{Status}
@@ -23,3 +24,8 @@ pub data Reports (status : Status) (before after : Option (List ℕ)) (faults_be
   failed : PutSome (report_text status) before after → HasRisen faults_before faults_after → answer ≡ after_fault status → Reports status before after faults_before faults_after answer
   -- the sink was refused memory
   out_of_memory : PutSome (report_text status) before after → answer ≡ Memory → Reports status before after faults_before faults_after answer
+
+-- a status was reported into a sink, which was `before` and is `after`, and the program ends with this number
+abbrev pub IsReported : {K : Type 0} → Ghosts K → Status → K → K → ℕ → Type 0
+IsReported G status before after number =
+    (answer : Status) × (number ≡ status_number answer) × Reports status (G.contents before) (G.contents after) (G.faults before) (G.faults after) answer

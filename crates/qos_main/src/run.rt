@@ -1,84 +1,99 @@
-//! A run: receive, the port and send take turns, one packet after another.
-ghost use Rattle.std.specs.Prelude.{◌≡◌, ◌≤◌, ◌^◌, List, None, OnOk, OnErr};
-ghost use Rattle.qos_pcap.specs.Format.{Record};
-ghost use Rattle.qos_main.specs.Plan.{IsPlan};
-ghost use Rattle.qos_main.specs.Schedule.{arrivals_of};
-ghost use Rattle.qos_main.specs.Run.{arrival_time, paced_journal};
-ghost use Rattle.qos_main.specs.Receiver.{StaysReceiver};
-ghost use Rattle.qos_main.specs.Sender.{StaysSender};
-ghost use Rattle.qos_main.specs.Egress.{Carries};
-ghost use Rattle.qos_main.specs.Fate.{body_at};
-ghost use Rattle.qos_main.specs.Taken.{HasComeTo, HasHalted, Goes, Took};
+//! The run of a command whose profile is loaded.
+ghost use Rattle.std.specs.Prelude.{◌≡◌, ◌<◌, ◌≤◌, ◌^◌, IfOk, OnErr};
+ghost use Rattle.std.specs.List.{sum_by};
+ghost use Rattle.qos_main.specs.Ended.{IsEndOf, ended_at, sums_over};
+ghost use Rattle.qos_main.specs.Run.{HasRefused, IsRun};
 
-use crate::egress::Egress;
-use crate::plan::Plan;
-use crate::receive::{Received, Receiver};
-use crate::slots::Slots;
-use qos_base::{MAX_MOMENT, NoMemory, Pkt, byte_time};
-use qos_io::{Sink, Source};
-use qos_pcap::Stop;
+use crate::ended::{Ended, InputEnd};
+use crate::status::Status;
+use pkt_receive::{Receiver, open_input};
+use profile_plan::Profile;
+use qos_base::{NoMemory, Sequence};
+use qos_io::{Shelf, Source};
+use qos_pcap::laws::reads_one_way;
+use qos_pipeline::{RunEnd, run_outputs};
+use qos_words::RunWords;
+use run_journal::PortEnd;
+use std::alloc::Global;
 
-// The byte time at which a packet arrives.
-fn arrival(plan: Plan, origin: u64, pkt: Pkt) -> u64
-    requires { IsPlan plan }
-    ensures exact { result ≡ arrival_time plan origin pkt }
-    ensures within { result ≤ 2 ^ 54 }
-{
-    byte_time(pkt.stamp.saturating_sub(origin).min(MAX_MOMENT), plan.line)
+// The sums of the numbers of all ports.
+#[derive(Clone, Copy)]
+struct Sums {
+    sent: u64,
+    left: u64,
+    tailfull: u64,
+    unwritten: u64,
 }
 
-// Takes an input to its stop: each admitted packet arrives at the port at its moment.
-fn take_all<S: Source, K: Sink>(
-    input: &mut Receiver<S>,
-    egress: &mut Egress<K>,
-    slots: &mut Slots,
-) -> Result<(), NoMemory>
-    requires fresh { Goes S.Source K.Sink input.old egress.old input.old egress.old }
-    requires plan { IsPlan egress.old.port.plan }
-    ensures goes { OnOk result (Goes S.Source K.Sink input.old egress.old input.new egress.new) }
-    ensures stopped { OnOk result (input.new.head ≡ None) }
-    ensures come { OnOk result ((records : List Record) (stop : Stop) → HasComeTo S.Source K.Sink records stop input.old egress.old
-        → HasComeTo S.Source K.Sink records stop input.new egress.new) }
-    ensures halted { OnErr result ((records : List Record) (stop : Stop)
-        → HasComeTo S.Source K.Sink records stop input.old egress.old
-        → HasHalted S.Source K.Sink egress.old.port.plan input.old.origin records egress.new) }
-    ensures stays { StaysSender K.Sink egress.old.sender egress.new.sender }
+fn sums_of(ports: &[PortEnd]) -> Sums
+    requires { sum_by ended_at ports.now < 2 ^ 64 }
+    ensures { result ≡ sums_over ports.now }
 {
-    let plan = egress.port.plan();
-    loop {
-        match input.turn(slots)? {
-            Received::Stopped => return Ok(()),
-            Received::Lost(_) => {}
-            Received::Admitted(mbuf) => {
-                let at = arrival(plan, input.origin, mbuf.pkt);
-                egress.arrive(at, mbuf, slots)?;
-            }
-        }
+    let mut sums = Sums {
+        sent: 0,
+        left: 0,
+        tailfull: 0,
+        unwritten: 0,
+    };
+    for port in ports {
+        sums.sent += port.counts.sent;
+        sums.left += port.counts.left;
+        sums.tailfull += port.counts.tailfull;
+        sums.unwritten += port.counts.unwritten;
+    }
+    sums
+}
+
+// The numbers of an input whose packets went through these ports.
+fn input_end<S: Source>(alloc: Global, input: &Receiver<S>, ports: &[PortEnd]) -> InputEnd
+    requires { sum_by ended_at ports.now ≤ input.now.read }
+    ensures { IsEndOf input.now (sums_over ports.now) result }
+{
+    let (read, losses) = (input.read, input.losses);
+    let sums = sums_of(ports);
+    InputEnd {
+        read,
+        sent: sums.sent,
+        left: sums.left,
+        reasons: [
+            losses.unparsed,
+            losses.unmatched,
+            losses.oversize,
+            losses.too_long,
+            0,
+            0,
+            sums.tailfull,
+        ],
+        unwritten: sums.unwritten,
+        unslotted: Sequence::of(Vec::new(alloc)),
+        stopped: input.stopped,
     }
 }
 
-/// Runs an input through a port to its end: each admitted packet arrives at its moment, in the input's order, and
-/// after the last the port is drained.
+/// Runs a command over its profile: the capture is opened, and its packets go one after another through the ports of the
+/// profile and into the outputs. No rule of the profile names a meter.
 ///
-/// `NoMemory`: the journal, or a slot, was refused memory, and the run is over.
-pub fn run_port<S: Source, K: Sink>(
-    input: &mut Receiver<S>,
-    egress: &mut Egress<K>,
-    slots: &mut Slots,
-) -> Result<(), NoMemory>
-    requires fresh { Goes S.Source K.Sink input.old egress.old input.old egress.old }
-    requires plan { IsPlan egress.old.port.plan }
-    ensures paced { OnOk result
-        (egress.new.port.journal ≡ paced_journal egress.old.port.plan input.old.origin (arrivals_of egress.new.port.journal)) }
-    ensures plan { OnOk result (egress.new.port.plan ≡ egress.old.port.plan) }
-    ensures took { OnOk result ((records : List Record) (stop : Stop) → HasComeTo S.Source K.Sink records stop input.old egress.old
-        → Took records stop input.new egress.new.port.journal × Carries K.Sink (body_at records) egress.new) }
-    ensures halted { OnErr result ((records : List Record) (stop : Stop)
-        → HasComeTo S.Source K.Sink records stop input.old egress.old
-        → HasHalted S.Source K.Sink egress.old.port.plan input.old.origin records egress.new) }
-    ensures stays { StaysSender K.Sink egress.old.sender egress.new.sender }
-    ensures input { OnOk result (StaysReceiver S.Source input.old input.new) }
+/// `NoMemory`: memory was refused, and the run is over.
+pub fn run<H: Shelf>(
+    alloc: Global,
+    command: &RunWords<'_>,
+    p: &Profile,
+    shelf: &mut H,
+) -> Result<(Ended, Status), NoMemory>
+    ensures ran { IfOk result (λ r. IsRun H.Shelf command.now p.now shelf.old shelf.new r.1 r.0) }
+    ensures refused { OnErr result (HasRefused H.Shelf command.now p.now shelf.old shelf.new) }
 {
-    take_all(input, egress, slots)?;
-    egress.drain(slots)
+    reads_one_way();
+    let mut input = open_input(shelf, command.capture, 0)?;
+    let mut inputs = Vec::with_capacity(alloc, 1)?;
+    let RunEnd { ports, write_fault } = run_outputs(alloc, shelf, p, command.prefix, &mut input)?;
+    let status = Status::of_run(input.stopped, &write_fault);
+    inputs.push_reserved(input_end(alloc, &input, &ports));
+    let ended = Ended {
+        status: status.number(),
+        ports: Sequence::of(ports),
+        inputs: Sequence::of(inputs),
+        write_fault: Sequence::of(write_fault),
+    };
+    Ok((ended, status))
 }

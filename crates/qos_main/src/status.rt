@@ -1,4 +1,7 @@
 //! How a command ends.
+ghost use Rattle.std.specs.Prelude.{◌≡◌};
+ghost use Rattle.qos_main.specs.Status.{any_true};
+
 use qos_pcap::{PcapFault, Stop};
 
 /// How a command ends.
@@ -8,7 +11,9 @@ pub enum Status {
     Fine,
     /// The words ask for no command.
     Usage,
-    /// An input could not be opened or read.
+    /// The profile's text is no profile.
+    Profile,
+    /// The profile or an input could not be opened or read.
     Read,
     /// An output or the report could not be written.
     Write,
@@ -16,34 +21,43 @@ pub enum Status {
     Capture,
     /// Memory was refused.
     Memory,
+    /// A rule of the profile names a meter, which is not built yet.
+    Unbuilt,
+}
+
+fn any_true(faults: &[bool]) -> bool
+    ensures { result ≡ any_true faults.now }
+{
+    faults.iter().any(|fault| *fault)
 }
 
 impl Status {
-    ghost use Rattle.std.specs.Prelude.{◌≡◌};
     ghost use Rattle.qos_main.specs.Status.{status_number, status_for, after_fault};
 
-    /// The program's exit status: 0 fine, 2 usage, 4 read, 5 write, 6 capture, 7 memory.
+    /// The program's exit status: 0 fine, 2 usage, 3 profile, 4 read, 5 write, 6 capture, 7 memory, 9 not built yet.
     pub fn number(self) -> u8
         ensures { result ≡ status_number self }
     {
         match self {
             Status::Fine => 0,
             Status::Usage => 2,
+            Status::Profile => 3,
             Status::Read => 4,
             Status::Write => 5,
             Status::Capture => 6,
             Status::Memory => 7,
+            Status::Unbuilt => 9,
         }
     }
 
-    /// The status of a run whose input stopped so, and whose output has a write fault or none.
-    pub fn of_run(stopped: Stop, write_fault: bool) -> Status
-        ensures { result ≡ status_for stopped write_fault }
+    /// The status of a run whose input stopped so, and whose outputs have such write faults.
+    pub fn of_run(stopped: Stop, write_faults: &[bool]) -> Status
+        ensures { result ≡ status_for stopped write_faults.now }
     {
         match stopped {
             Stop::NotOpened | Stop::Fault(PcapFault::Read) => Status::Read,
             Stop::Fault(_) => Status::Capture,
-            Stop::End if write_fault => Status::Write,
+            Stop::End if any_true(write_faults) => Status::Write,
             Stop::End => Status::Fine,
         }
     }

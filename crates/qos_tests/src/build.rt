@@ -6,8 +6,8 @@ pub const HEADER: [u8; 24] = [
     0x4d, 0x3c, 0xb2, 0xa1, 2, 0, 4, 0, 0, 0, 0, 0, 0, 0, 0, 0, 0, 0, 4, 0, 1, 0, 0, 0,
 ];
 
-/// An IPv4 frame of 60 bytes.
-pub const FRAME: [u8; 60] = [
+// An IPv4 frame of 60 bytes to 10.0.0.2, with code point 0.
+const FRAME: [u8; 60] = [
     2, 0, 0, 0, 0, 1, 2, 0, 0, 0, 0, 2, 8, 0, 0x45, 0, 0, 0x2e, 0, 0, 0, 0, 0x40, 0x11, 0, 0, 10,
     0, 0, 1, 10, 0, 0, 2, 0, 0, 0, 0, 0, 0, 0, 0, 0, 0, 0, 0, 0, 0, 0, 0, 0, 0, 0, 0, 0, 0, 0, 0,
     0, 0,
@@ -43,23 +43,33 @@ pub const FORMS: [Form; 4] = [
     },
 ];
 
-/// A record of a capture. Its body is the frame of 60 bytes, cut or lengthened with zero bytes to `cap`.
+/// A record of a capture. Its body is the frame of 60 bytes with this code point, this last byte of its address and this
+/// last byte of its ethertype, cut or lengthened with zero bytes to `cap`; its total length is that of the body.
 #[derive(Clone, Copy, Debug)]
 pub struct Rec {
     pub seconds: u32,
     pub nanos: u32,
     pub cap: u32,
     pub wire: u32,
+    pub dscp: u8,
+    pub host: u8,
+    pub kind: u8,
 }
 
-/// A frame of 60 bytes that was captured so many nanoseconds after 100 seconds.
+/// A frame of 60 bytes that was captured 100 seconds after the origin of the stamps.
+pub const FIRST: Rec = Rec {
+    seconds: 100,
+    nanos: 0,
+    cap: 60,
+    wire: 60,
+    dscp: 0,
+    host: 2,
+    kind: 0,
+};
+
+/// The same frame, captured so many nanoseconds later.
 pub fn frame(nanos: u32) -> Rec {
-    Rec {
-        seconds: 100,
-        nanos,
-        cap: 60,
-        wire: 60,
-    }
+    Rec { nanos, ..FIRST }
 }
 
 /// What an input holds.
@@ -148,15 +158,27 @@ fn put_header<R: Abort>(rt: &R, bytes: &mut Vec<u8>, form: Form) {
     }
 }
 
-fn put_record<R: Abort>(rt: &R, bytes: &mut Vec<u8>, form: Form, record: &Rec) {
+// The first 60 bytes of a record's body.
+fn body(record: &Rec) -> [u8; 60] {
+    let mut body = FRAME;
+    let total = record.cap.saturating_sub(14).min(65_535) as u16;
+    body[13] = record.kind;
+    body[15] = record.dscp << 2;
+    [body[16], body[17]] = total.to_be_bytes();
+    body[33] = record.host;
+    body
+}
+
+/// Adds a record to a capture of this form.
+pub fn put_record<R: Abort>(rt: &R, bytes: &mut Vec<u8>, form: Form, record: &Rec) {
     let unit = if form.micros { 1000 } else { 1 };
     for number in [record.seconds, record.nanos / unit, record.cap, record.wire] {
         put_number(rt, bytes, form, number);
     }
-    put(rt, bytes, &FRAME[..(record.cap as usize).min(60)]);
-    for _ in 60..record.cap {
-        put(rt, bytes, &[0]);
-    }
+    let cap = record.cap as usize;
+    put(rt, bytes, &body(record)[..cap.min(60)]);
+    let all = bytes.len().saturating_add(cap.saturating_sub(60));
+    bytes.resize(all, 0).expect(rt, "memory");
 }
 
 /// The words of a line, which single spaces part.

@@ -1,7 +1,8 @@
 //! A capture that is cut at each byte.
 use crate::build::{PLAIN, Rec, capture, frame};
-use crate::rows::{Outcome, check_on, shelf_over};
-use crate::seen::{PortNumbers, wanted};
+use crate::check::{ends_so, holds, shelf_over};
+use crate::profiles::{DRAINS, profile};
+use crate::seen::{EMPTY, End, PortNumbers, wanted};
 use qos_pcap::{PcapFault, Stop};
 use std::process::Abort;
 
@@ -26,19 +27,28 @@ fn stop_of(len: usize) -> Stop {
     Stop::Fault(PcapFault::CutRecord(begin as u64))
 }
 
+fn end_of(len: usize, whole: usize) -> End {
+    let stopped = stop_of(len);
+    End {
+        status: if stopped == Stop::End { 0 } else { 6 },
+        stopped,
+        first: PORTS[whole.min(3)],
+        ..EMPTY
+    }
+}
+
 fn check_cut<R: Sync + AllocGlobal + Abort>(rt: &R, len: usize, sent: &[Rec; 3]) {
     let mut bytes = capture(rt, PLAIN, &[frame(0); 3]);
     bytes.truncate(len);
-    let stopped = stop_of(len);
-    let status = if stopped == Stop::End { 0 } else { 6 };
     let whole = (len.saturating_sub(24) / 76).min(3);
-    let expected = Outcome {
-        note: "a cut capture",
-        seen: wanted(status, PORTS[whole], [0, 0], stopped),
-        output: &sent[..whole],
-    };
-    let words = "run i o 1000000000 2000000 1 1";
-    check_on(rt, words, &mut shelf_over(rt, bytes), &expected);
+    let mut shelf = shelf_over(rt, profile(rt, &[DRAINS]), bytes);
+    ends_so(
+        rt,
+        &mut shelf,
+        &wanted(&end_of(len, whole)),
+        "a cut capture",
+    );
+    holds(rt, &shelf, "o.0.pcap", &sent[..whole], "a cut capture");
 }
 
 #[test]

@@ -1,4 +1,4 @@
-//! Tests of whole commands, of their words and report, and of the system's files, by the public calls of `qos_main`.
+//! Tests of whole commands over files in memory, and of the report, by the public calls of `qos_main`.
 //!
 //! They stand apart so that `qos_main` is proved once. The expected numbers are worked by hand, from the rules of
 //! pacing, of the token bucket and of the capture format, or by the rule that a test names.
@@ -7,18 +7,20 @@
 #[cfg(test)]
 mod build;
 #[cfg(test)]
+mod check;
+#[cfg(test)]
 mod cuts;
 #[cfg(test)]
-mod faults;
+mod many;
 #[cfg(test)]
-mod faulty;
+mod ports;
 #[cfg(test)]
-mod files;
+mod profiles;
+#[cfg(test)]
+mod refused;
 #[cfg(test)]
 mod report;
 #[cfg(test)]
 mod rows;
 #[cfg(test)]
 mod seen;
-#[cfg(test)]
-mod words;

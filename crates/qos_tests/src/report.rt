@@ -42,8 +42,8 @@ impl Sink for Said {
 const ROWS: [(Status, Option<PutFault>, &str, Status); 8] = [
     (Status::Fine, None, "status 0\n", Status::Fine),
     (Status::Usage, None, "usage\nstatus 2\n", Status::Usage),
-    (Status::Read, None, "status 4\n", Status::Read),
-    (Status::Capture, None, "status 6\n", Status::Capture),
+    (Status::Profile, None, "status 3\n", Status::Profile),
+    (Status::Unbuilt, None, "status 9\n", Status::Unbuilt),
     (Status::Memory, None, "status 7\n", Status::Memory),
     (Status::Fine, Some(PutFault::Failed), "", Status::Write),
     (Status::Capture, Some(PutFault::Failed), "", Status::Capture),
@@ -75,10 +75,12 @@ fn statuses_have_numbers(rt: HostRuntime) {
     for (status, number) in [
         (Status::Fine, 0),
         (Status::Usage, 2),
+        (Status::Profile, 3),
         (Status::Read, 4),
         (Status::Write, 5),
         (Status::Capture, 6),
         (Status::Memory, 7),
+        (Status::Unbuilt, 9),
     ] {
         same(&rt, &status.number(), &number, "a number");
     }

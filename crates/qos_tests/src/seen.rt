@@ -9,16 +9,16 @@ use std::process::Abort;
 /// The numbers of a port: arrived, sent, left, turned away, not put, dequeues and time.
 pub type PortNumbers = [u64; 7];
 
-/// What a command ended with.
+/// What a command ended with. Of ports there are two at most; what stands for one that is not there is zero.
 #[derive(Clone, Copy, Debug, PartialEq, Eq)]
 pub struct Seen {
     pub status: u8,
     /// How many ports, inputs and write faults are listed.
     pub lists: [usize; 3],
-    pub write_fault: bool,
-    /// How many entries the journal has.
-    pub entries: usize,
-    pub port: PortNumbers,
+    pub write_faults: [bool; 2],
+    /// How many entries each journal has.
+    pub entries: [usize; 2],
+    pub ports: [PortNumbers; 2],
     /// The numbers of the input: read, sent, left, not put.
     pub input: [u64; 4],
     pub reasons: [u64; 7],
@@ -26,14 +26,39 @@ pub struct Seen {
     pub stopped: Stop,
 }
 
+/// What a run comes to; the other numbers follow.
+#[derive(Clone, Copy)]
+pub struct End {
+    pub status: u8,
+    pub stopped: Stop,
+    /// How many ports the profile has, at most two.
+    pub count: usize,
+    pub first: PortNumbers,
+    pub second: PortNumbers,
+    pub write_faults: [bool; 2],
+    /// How many records are unparsed, unmatched, oversize and too long.
+    pub lost: [u64; 4],
+}
+
+/// One port, and no record.
+pub const EMPTY: End = End {
+    status: 0,
+    stopped: Stop::End,
+    count: 1,
+    first: [0; 7],
+    second: [0; 7],
+    write_faults: [false; 2],
+    lost: [0; 4],
+};
+
 /// Nothing was scheduled.
 pub fn nothing(status: u8) -> Seen {
     Seen {
         status,
-        lists: [0, 0, 0],
-        write_fault: false,
-        entries: 0,
-        port: [0; 7],
+        lists: [0; 3],
+        write_faults: [false; 2],
+        entries: [0; 2],
+        ports: [[0; 7]; 2],
         input: [0; 4],
         reasons: [0; 7],
         unslotted: 0,
@@ -41,44 +66,45 @@ pub fn nothing(status: u8) -> Seen {
     }
 }
 
-/// What these numbers of the port imply, with so many records that are oversize and too long.
-pub fn wanted(status: u8, port: PortNumbers, passed: [u64; 2], stopped: Stop) -> Seen {
-    let [arrived, sent, left, tailfull, unwritten, dequeues, _] = port;
-    let [oversize, too_long] = passed;
-    let read = arrived.saturating_add(oversize).saturating_add(too_long);
+// A journal has an entry for each arrival and each dequeue.
+fn entries(port: &PortNumbers) -> usize {
+    port[0].saturating_add(port[5]) as usize
+}
+
+// The sums of the ports' numbers.
+fn sums(end: &End) -> PortNumbers {
+    let mut sums = end.first;
+    for (sum, more) in sums.iter_mut().zip(end.second) {
+        *sum = sum.saturating_add(more);
+    }
+    sums
+}
+
+/// What is seen where a run comes to this.
+pub fn wanted(end: &End) -> Seen {
+    let [arrived, sent, left, tailfull, unwritten, _, _] = sums(end);
+    let [unparsed, unmatched, oversize, too_long] = end.lost;
+    let read = arrived
+        .saturating_add(unparsed)
+        .saturating_add(unmatched)
+        .saturating_add(oversize)
+        .saturating_add(too_long);
     Seen {
-        status,
-        lists: [1, 1, 1],
-        write_fault: false,
-        entries: arrived.saturating_add(dequeues) as usize,
-        port,
+        status: end.status,
+        lists: [end.count, 1, end.count],
+        write_faults: end.write_faults,
+        entries: [entries(&end.first), entries(&end.second)],
+        ports: [end.first, end.second],
         input: [read, sent, left, unwritten],
-        reasons: [0, 0, oversize, too_long, 0, 0, tailfull],
+        reasons: [unparsed, unmatched, oversize, too_long, 0, 0, tailfull],
         unslotted: 0,
-        stopped,
+        stopped: end.stopped,
     }
 }
 
-/// What is seen of an end.
-pub fn gather(ended: &Ended) -> Seen {
-    let (ports, inputs) = (ended.ports.as_slice(), ended.inputs.as_slice());
-    let faults = ended.write_fault.as_slice();
-    let mut seen = nothing(ended.status);
-    seen.lists = [ports.len(), inputs.len(), faults.len()];
-    seen.write_fault = faults.first() == Some(&true);
-    if let [port] = ports {
-        see_port(&mut seen, port);
-    }
-    if let [input] = inputs {
-        see_input(&mut seen, input);
-    }
-    seen
-}
-
-fn see_port(seen: &mut Seen, port: &PortEnd) {
+fn numbers(port: &PortEnd) -> PortNumbers {
     let counts = port.counts;
-    seen.entries = port.journal.as_slice().len();
-    seen.port = [
+    [
         counts.arrived,
         counts.sent,
         counts.left,
@@ -86,7 +112,18 @@ fn see_port(seen: &mut Seen, port: &PortEnd) {
         counts.unwritten,
         counts.dequeues,
         counts.time,
-    ];
+    ]
+}
+
+fn see_ports(seen: &mut Seen, ports: &[PortEnd]) {
+    if let Some(port) = ports.first() {
+        seen.ports[0] = numbers(port);
+        seen.entries[0] = port.journal.as_slice().len();
+    }
+    if let Some(port) = ports.get(1) {
+        seen.ports[1] = numbers(port);
+        seen.entries[1] = port.journal.as_slice().len();
+    }
 }
 
 fn see_input(seen: &mut Seen, input: &InputEnd) {
@@ -96,6 +133,20 @@ fn see_input(seen: &mut Seen, input: &InputEnd) {
     seen.stopped = input.stopped;
 }
 
+/// What is seen of an end.
+pub fn gather(ended: &Ended) -> Seen {
+    let (ports, inputs) = (ended.ports.as_slice(), ended.inputs.as_slice());
+    let faults = ended.write_fault.as_slice();
+    let mut seen = nothing(ended.status);
+    seen.lists = [ports.len(), inputs.len(), faults.len()];
+    seen.write_faults = [faults.first() == Some(&true), faults.get(1) == Some(&true)];
+    see_ports(&mut seen, ports);
+    if let [input] = inputs {
+        see_input(&mut seen, input);
+    }
+    seen
+}
+
 /// Runs a command; the report goes to `said`.
 pub fn run<R: Sync + AllocGlobal + Abort, H: Shelf, K: Sink>(
     rt: &R,
@@ -103,8 +154,24 @@ pub fn run<R: Sync + AllocGlobal + Abort, H: Shelf, K: Sink>(
     shelf: &mut H,
     said: &mut K,
 ) -> Seen {
-    let words = words_of(rt, line);
-    gather(&qos_top(rt, rt.alloc(), &words, shelf, said, &OpenGate))
+    run_words(rt, &words_of(rt, line), shelf, said)
+}
+
+/// Runs the command of these words.
+pub fn run_words<R: Sync + AllocGlobal + Abort, H: Shelf, K: Sink>(
+    rt: &R,
+    words: &[String],
+    shelf: &mut H,
+    said: &mut K,
+) -> Seen {
+    gather(&qos_top(rt, rt.alloc(), words, shelf, said, &OpenGate))
+}
+
+/// The report of a status, which is one digit.
+pub fn report_of(status: u8) -> [u8; 9] {
+    let mut line = *b"status 0\n";
+    line[7] = b'0'.saturating_add(status);
+    line
 }
 
 /// Two values are the same.

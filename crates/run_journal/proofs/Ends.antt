@@ -8,7 +8,7 @@ use Rattle.std.proofs.lemmas.List.Elements.{All-head, All-tail}
 use Rattle.std.proofs.lemmas.List.Sorted.{IsPermutation-refl, IsPermutation-sym, IsPermutation-trans, IsPermutation-to_front, IsPermutation-cons, IsPermutation-middle, IsPermutation-append_left, IsPermutation-append_right}
 use Rattle.qos_base.specs.declared.packet.Pkt.{Pkt}
 use Rattle.qos_base.specs.declared.packet.Departure.{Departure}
-use Rattle.port_sched.specs.Laws.{itself, parcels}
+use Rattle.port_sched.specs.Parcels.{itself, parcels}
 use Rattle.port_sched.specs.Port.{Port, left_of, has_place, is_full, after_arrival}
 use Rattle.port_sched.specs.PortDequeue.{dequeue_port}
 use Rattle.port_sched.specs.PortLaws.{DequeueServes, ArrivalJoins}

@@ -6,7 +6,7 @@ use Rattle.std.proofs.lemmas.List.{append-nil}
 use Rattle.std.proofs.lemmas.List.Elements.{All-nil, All-cons}
 use Rattle.std.proofs.lemmas.List.Sums.{fold-append, sum_by-cons}
 use Rattle.qos_base.specs.declared.packet.Pkt.{Pkt}
-use Rattle.port_sched.specs.Laws.{itself, parcels}
+use Rattle.port_sched.specs.Parcels.{itself, parcels}
 use Rattle.port_sched.specs.Port.{Port, queued}
 use Rattle.port_sched.specs.PortDequeue.{cost_with, dequeue_port}
 use Rattle.port_sched.specs.PortLaws.{DequeueServes}

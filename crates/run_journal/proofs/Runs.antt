@@ -7,7 +7,7 @@ use Rattle.qos_base.specs.declared.packet.Pkt.{Pkt}
 use Rattle.qos_base.specs.declared.packet.Departure.{Departure}
 use Rattle.profile_plan.specs.declared.port.PortPlan.{PortPlan}
 use Rattle.profile_plan.specs.Profile.{Plan, IsPort}
-use Rattle.port_sched.specs.Laws.{itself, seen_send}
+use Rattle.port_sched.specs.Parcels.{itself, seen_send}
 use Rattle.port_sched.specs.Port.{Port, left_of, queued, has_place, is_full, after_arrival}
 use Rattle.port_sched.specs.PortDequeue.{Course, dequeue_port}
 use Rattle.port_sched.specs.PortLaws.{seen_port, PacketsDecide, DequeueServes, ArrivalJoins}

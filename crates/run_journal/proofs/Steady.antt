@@ -5,7 +5,7 @@ use Rattle.std.proofs.lemmas.Bool.Decides.{nat_tests}
 use Rattle.std.proofs.lemmas.List.Elements.{All-nil, All-cons, All-weaker, All-contains, All-same}
 use Rattle.std.proofs.lemmas.List.Sorted.{length_permutation}
 use Rattle.qos_base.specs.declared.packet.Pkt.{Pkt}
-use Rattle.port_sched.specs.Laws.{itself}
+use Rattle.port_sched.specs.Parcels.{itself}
 use Rattle.port_sched.specs.Port.{Port, left_of, has_place, is_full, after_arrival}
 use Rattle.port_sched.specs.PortDequeue.{cost_with, dequeue_port}
 use Rattle.port_sched.specs.PortLaws.{AllWaiting, DequeueServes, ArrivalJoins}

@@ -2,7 +2,7 @@
 use Rattle.std.specs.Prelude.{◌≡◌, ◌<◌, ◌≤◌, ◌⊎◌, ℕ, true, max, List, [], ◌∷◌, ◌++◌, All, IsTrue}
 use Rattle.std.specs.List.Sorted.{IsPermutation}
 use Rattle.qos_base.specs.declared.packet.Pkt.{Pkt}
-use Rattle.port_sched.specs.Laws.{itself, parcels}
+use Rattle.port_sched.specs.Parcels.{itself, parcels}
 use Rattle.port_sched.specs.Port.{Port, left_of, queued, has_place}
 use Rattle.port_sched.specs.PortDequeue.{cost_with, dequeue_port}
 use Rattle.port_sched.specs.Settings.{IsPortWithin}

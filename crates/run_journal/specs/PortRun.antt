@@ -5,7 +5,7 @@ use Rattle.qos_base.specs.declared.packet.Pkt.{Pkt}
 use Rattle.qos_base.specs.declared.packet.Departure.{Departure}
 use Rattle.profile_plan.specs.declared.port.PortPlan.{PortPlan}
 use Rattle.profile_plan.specs.Profile.{Plan}
-use Rattle.port_sched.specs.Laws.{seen_send}
+use Rattle.port_sched.specs.Parcels.{seen_send}
 use Rattle.port_sched.specs.Port.{Port, left_of, queued, has_place}
 use Rattle.port_sched.specs.PortDequeue.{dequeue_port}
 use Rattle.port_sched.specs.PortLaws.{AllWaiting, seen_port}

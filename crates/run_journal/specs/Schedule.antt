@@ -4,7 +4,7 @@ use Rattle.qos_base.specs.declared.packet.Pkt.{Pkt}
 use Rattle.qos_base.specs.declared.packet.Departure.{Departure}
 use Rattle.profile_plan.specs.declared.port.PortPlan.{PortPlan}
 use Rattle.profile_plan.specs.Profile.{Plan}
-use Rattle.port_sched.specs.Laws.{itself}
+use Rattle.port_sched.specs.Parcels.{itself}
 use Rattle.port_sched.specs.Port.{Port, is_full, after_arrival}
 use Rattle.port_sched.specs.PortDequeue.{dequeue_port}
 use Rattle.port_sched.specs.Start.{start_at}

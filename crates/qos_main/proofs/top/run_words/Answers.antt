@@ -1,7 +1,11 @@
-use Rattle.qos_main.proofs.Names.{◌≡◌, inr}
+use Rattle.std.proofs.Common.{ap, sym, subst, ◌∙◌, Option}
+use Rattle.std.specs.Option.{unwrap_or}
+use Rattle.qos_words.specs.Words.{Asked}
+use Rattle.qos_main.specs.Command.{CommandEnds}
+use Rattle.qos_main.proofs.Earlier.{numbered}
 use Rattle.qos_main.proofs.top.run_words.Goals as goal
 
-pub returns-in-Err-clause-outcome : goal.returns-in-Err-clause-outcome
-returns-in-Err-clause-outcome g c tells command asks =
-    let same : c.in-Some.command ≡ command = cc in
-    inr (c.nothing-in-Err.ensures, rw same at (c.in-Err.ensures.left tells))
+pub returns-in-Some-clause-ends : goal.returns-in-Some-clause-ends
+returns-in-Some-clause-ends g c command asks number =
+    subst (λ (a : Asked). CommandEnds g.H.Shelf a c.args.shelf.now c.run_command.new.shelf c.run_command.result.1 (numbered c.run_command.result.0 number))
+    (ap (λ (o : Option Asked). unwrap_or o command) (sym c.in-Some.is ∙ c.read_words.ensures.exact ∙ asks)) (c.run_command.ensures.ends number)

@@ -1,0 +1,184 @@
+//! Commands on the files of the system. Each test has names of its own in the folder where the tests run.
+use crate::build::{FIRST, PROFILE, SECOND, Sent, capture, input};
+use crate::seen::{FINE, NOTHING, Seen, report_of, run, same, wanted};
+use qos_io::WholeSink;
+use qos_main::FileShelf;
+use qos_pcap::{PcapFault, Stop};
+use std::fs;
+use std::fs::File;
+use std::os::unix;
+use std::process::Abort;
+use std::rt::Files;
+
+// Makes a file.
+fn make<R: Files + Abort>(rt: &R, name: &str, bytes: &[u8]) {
+    fs::write(rt, name, bytes).expect(rt, "a file");
+}
+
+// A file has these bytes.
+fn has<R: Files + AllocGlobal + Abort>(rt: &R, name: &str, bytes: &[u8], note: &str) {
+    let held = fs::read(rt, name).expect(rt, "a file");
+    same(rt, &held.as_slice(), &bytes, note);
+}
+
+// A file is the capture that the program writes of these frames.
+fn holds<R: Files + AllocGlobal + Abort>(rt: &R, name: &str, frames: &[Sent], note: &str) {
+    has(rt, name, &capture(rt, frames), note);
+}
+
+fn check<R: Files<File = File> + Sync + AllocGlobal + Abort>(rt: &R, words: &str, end: &Seen) {
+    let mut said = WholeSink::new(rt.alloc());
+    let found = run(rt, words, &mut FileShelf::new(rt), &mut said);
+    same(rt, &found, &wanted(end), words);
+    same(rt, &said.bytes(), &report_of(end.status).as_slice(), words);
+}
+
+#[test]
+fn a_command_on_files(rt: HostRuntime) {
+    make(&rt, "plan", PROFILE.as_bytes());
+    make(&rt, "whole", &input(&rt));
+    let words = "run --profile plan --out shaped whole";
+    check(&rt, words, &FINE);
+    holds(&rt, "shaped.0.pcap", &FIRST, "a new file");
+    holds(&rt, "shaped.1.pcap", &SECOND, "a new file");
+    make(&rt, "shaped.0.pcap", &[7; 1000]);
+    check(&rt, words, &FINE);
+    holds(&rt, "shaped.0.pcap", &FIRST, "a longer one that was there");
+}
+
+// The output of port 0 is refused.
+const KEPT: Seen = Seen {
+    status: 5,
+    first: [2, 0, 0, 0, 2, 2, 168],
+    write_faults: [true, false],
+    ..FINE
+};
+
+// The output of port 0 is the capture or the profile under another name: with a folder before it, and by a link of either
+// kind. With the words, the output of port 1.
+const OVERWRITING: [(&str, &str); 7] = [
+    (
+        "run --profile rules.0.pcap --out ./kept kept.0.pcap",
+        "kept.1.pcap",
+    ),
+    (
+        "run --profile rules.0.pcap --out soft kept.0.pcap",
+        "soft.1.pcap",
+    ),
+    (
+        "run --profile rules.0.pcap --out hard kept.0.pcap",
+        "hard.1.pcap",
+    ),
+    (
+        "run --profile rules.0.pcap --out kept soft.0.pcap",
+        "kept.1.pcap",
+    ),
+    (
+        "run --profile rules.0.pcap --out ./rules kept.0.pcap",
+        "rules.1.pcap",
+    ),
+    (
+        "run --profile rules.0.pcap --out softer kept.0.pcap",
+        "softer.1.pcap",
+    ),
+    (
+        "run --profile rules.0.pcap --out harder kept.0.pcap",
+        "harder.1.pcap",
+    ),
+];
+
+// Makes a file with a soft and a hard link.
+fn linked<R: Files + Abort>(rt: &R, name: &str, bytes: &[u8], soft: &str, hard: &str) {
+    make(rt, name, bytes);
+    unix::fs::symlink(rt, name, soft).expect(rt, "a link");
+    fs::hard_link(rt, name, hard).expect(rt, "a link");
+}
+
+fn check_kept<R: Files<File = File> + Sync + AllocGlobal + Abort>(rt: &R, row: (&str, &str)) {
+    let (words, other) = row;
+    check(rt, words, &KEPT);
+    has(rt, "kept.0.pcap", &input(rt), words);
+    has(rt, "rules.0.pcap", PROFILE.as_bytes(), words);
+    holds(rt, other, &SECOND, words);
+    fs::remove_file(rt, other).expect(rt, "a file");
+}
+
+#[test]
+fn inputs_are_not_overwritten(rt: HostRuntime) {
+    let bytes = input(&rt);
+    linked(&rt, "kept.0.pcap", &bytes, "soft.0.pcap", "hard.0.pcap");
+    let text = PROFILE.as_bytes();
+    linked(&rt, "rules.0.pcap", text, "softer.0.pcap", "harder.0.pcap");
+    for row in OVERWRITING {
+        check_kept(&rt, row);
+    }
+}
+
+// A full device takes what fits into the program's buffer, and fails when it is flushed.
+#[test]
+fn an_output_is_full(rt: HostRuntime) {
+    make(&rt, "layout", PROFILE.as_bytes());
+    make(&rt, "frames", &input(&rt));
+    unix::fs::symlink(&rt, "/dev/full", "full.0.pcap").expect(&rt, "a link");
+    let end = Seen {
+        status: 5,
+        write_faults: [true, false],
+        ..FINE
+    };
+    check(&rt, "run --profile layout --out full frames", &end);
+    holds(&rt, "full.1.pcap", &SECOND, "the other output");
+}
+
+const UNWRITTEN: Seen = Seen {
+    status: 5,
+    first: [2, 0, 0, 0, 2, 2, 168],
+    second: [1, 0, 0, 0, 1, 1, 84],
+    write_faults: [true, true],
+    ..FINE
+};
+
+const UNREAD: Seen = Seen {
+    status: 4,
+    stopped: Stop::Fault(PcapFault::Read),
+    first: [0; 7],
+    second: [0; 7],
+    ..FINE
+};
+
+const UNOPENED: Seen = Seen {
+    stopped: Stop::NotOpened,
+    ..UNREAD
+};
+
+const NO_PROFILE: Seen = Seen {
+    status: 4,
+    ..NOTHING
+};
+
+// A folder opens, and fails when it is read; in a folder that is not there nothing is opened or created.
+const OUTSIDE: [(&str, Seen); 5] = [
+    ("run --profile terms --out absent/o ours", UNWRITTEN),
+    ("run --profile terms --out unread .", UNREAD),
+    ("run --profile terms --out unopened absent/a", UNOPENED),
+    ("run --profile . --out never ours", NO_PROFILE),
+    ("run --profile absent/p --out never ours", NO_PROFILE),
+];
+
+#[test]
+fn the_outside_fails(rt: HostRuntime) {
+    make(&rt, "terms", PROFILE.as_bytes());
+    make(&rt, "ours", &input(&rt));
+    for (words, end) in OUTSIDE {
+        check(&rt, words, &end);
+    }
+    for name in [
+        "unread.0.pcap",
+        "unread.1.pcap",
+        "unopened.0.pcap",
+        "unopened.1.pcap",
+    ] {
+        holds(&rt, name, &[], "an output of no record");
+    }
+    let made = fs::read(&rt, "never.0.pcap").is_ok();
+    same(&rt, &made, &false, "an output without a profile");
+}

@@ -1,0 +1,57 @@
+//! Files of the system, and standard output, by the calls that a run makes on them.
+use crate::seen::same;
+use qos_io::{Failed, PutFault, Shelf, Sink, Source};
+use qos_main::{FileShelf, StdoutSink};
+
+// A put that is larger than the buffer is written at once.
+#[test]
+fn a_full_device(rt: HostRuntime) {
+    let bytes = vec![in rt.alloc(); 7u8; 300_000].expect(&rt, "memory");
+    let mut shelf = FileShelf::new(&rt);
+    let mut sink = shelf.create_out("/dev/full").expect(&rt, "a sink");
+    same(
+        &rt,
+        &sink.put(&bytes),
+        &Err(PutFault::Failed),
+        "a large put",
+    );
+    let mut sink = shelf.create_out("/dev/full").expect(&rt, "a sink");
+    same(&rt, &sink.put(b"few"), &Ok(()), "a small put");
+    let closed = shelf.close_out(sink);
+    same(&rt, &closed, &Err(PutFault::Failed), "the closing");
+}
+
+// How many bytes a source has left, or that a read of it fails.
+fn left_in<S: Source>(source: &mut S) -> Result<u64, Failed> {
+    let mut buf = [0u8; 4096];
+    let mut all = 0u64;
+    for _ in 0..1u32 << 20 {
+        let n = source.read(&mut buf)?;
+        if n == 0 {
+            break;
+        }
+        all = all.saturating_add(n as u64);
+    }
+    Ok(all)
+}
+
+// Puts that are larger than the piece of one write, and small ones between them.
+#[test]
+fn a_large_file_is_read_back(rt: HostRuntime) {
+    let bytes = vec![in rt.alloc(); 7u8; 300_000].expect(&rt, "memory");
+    let mut shelf = FileShelf::new(&rt);
+    let mut sink = shelf.create_out("large").expect(&rt, "a sink");
+    for _ in 0..2 {
+        same(&rt, &sink.put(&bytes), &Ok(()), "a large put");
+        same(&rt, &sink.put(b"end"), &Ok(()), "a small put");
+    }
+    same(&rt, &shelf.close_out(sink), &Ok(()), "the closing");
+    let mut source = shelf.open_in("large").expect(&rt, "a source");
+    same(&rt, &left_in(&mut source), &Ok(600_006), "what is read");
+}
+
+#[test]
+fn standard_output_is_written(rt: HostRuntime) {
+    let put = StdoutSink::new(&rt).put(b"said\n");
+    same(&rt, &put, &Ok(()), "a put");
+}

@@ -1,0 +1,4 @@
+pub mod Run
+pub mod Output
+pub mod Sender
+pub mod Egress

@@ -1,0 +1,5 @@
+pub mod Closings
+pub mod Spans
+pub mod Places
+pub mod Creations
+pub mod Shuts

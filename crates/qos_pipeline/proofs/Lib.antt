@@ -1,0 +1,17 @@
+mod Places
+mod Begun
+mod Ended
+mod Sends
+mod Dropped
+mod Endings
+mod Lives
+mod Closed
+mod Wholes
+mod Changed
+mod Given
+mod Halted
+mod Stays
+mod Turned
+mod Drained
+mod Goes
+mod Runs

@@ -1,0 +1,9 @@
+pub mod Ports
+pub mod Took
+pub mod Written
+pub mod PortEnds
+pub mod Prepared
+pub mod Outputs
+pub mod Since
+pub mod Changes
+pub mod Turns

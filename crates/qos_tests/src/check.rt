@@ -1,0 +1,86 @@
+//! Commands over files in memory, and what they come to.
+use crate::build::{Input, Rec, bytes_of, output};
+use crate::profiles::{Edit, profile};
+use crate::seen::{End, Seen, report_of, run, same, wanted};
+use qos_io::{MemShelf, WholeSink};
+use std::process::Abort;
+
+/// The words of the rows.
+pub const WORDS: &str = "run --profile p --out o a.pcap";
+
+/// A run over one input, what it comes to, and what each port writes.
+#[derive(Clone, Copy)]
+pub struct Row<'a> {
+    pub note: &'a str,
+    pub edits: &'a [Edit<'a>],
+    pub input: Input<'a>,
+    pub end: End,
+    pub outputs: [&'a [Rec]; 2],
+}
+
+/// A shelf with this profile and this input.
+pub fn shelf_over<R: AllocGlobal + Abort>(rt: &R, profile: Vec<u8>, input: Vec<u8>) -> MemShelf {
+    let mut shelf = MemShelf::new(rt.alloc());
+    shelf.put_file("p", profile).expect(rt, "memory");
+    shelf.put_file("a.pcap", input).expect(rt, "memory");
+    shelf
+}
+
+/// The shelf of a row.
+pub fn shelf_of<R: AllocGlobal + Abort>(rt: &R, row: &Row<'_>) -> MemShelf {
+    let text = profile(rt, row.edits);
+    if let Input::Absent = row.input {
+        let mut shelf = MemShelf::new(rt.alloc());
+        shelf.put_file("p", text).expect(rt, "memory");
+        return shelf;
+    }
+    shelf_over(rt, text, bytes_of(rt, row.input))
+}
+
+/// Runs the words of the rows on a shelf, and compares how that ends and the report.
+pub fn ends_so<R: Sync + AllocGlobal + Abort>(
+    rt: &R,
+    shelf: &mut MemShelf,
+    expected: &Seen,
+    note: &str,
+) {
+    let mut said = WholeSink::new(rt.alloc());
+    same(rt, &run(rt, WORDS, shelf, &mut said), expected, note);
+    let report = report_of(expected.status);
+    same(rt, &said.bytes(), &report.as_slice(), note);
+}
+
+/// The file of this name is what the program writes of these records.
+pub fn holds<R: AllocGlobal + Abort>(
+    rt: &R,
+    shelf: &MemShelf,
+    name: &str,
+    records: &[Rec],
+    note: &str,
+) {
+    let written = output(rt, records);
+    same(rt, &shelf.file(name), &Some(written.as_slice()), note);
+}
+
+/// There is no output of port 0 or port 1.
+pub fn holds_nothing<R: Abort>(rt: &R, shelf: &MemShelf, note: &str) {
+    same(rt, &shelf.file("o.0.pcap"), &None, note);
+    same(rt, &shelf.file("o.1.pcap"), &None, note);
+}
+
+/// The outputs of a row.
+pub fn wrote<R: AllocGlobal + Abort>(rt: &R, shelf: &MemShelf, row: &Row<'_>) {
+    holds(rt, shelf, "o.0.pcap", row.outputs[0], row.note);
+    if row.end.count > 1 {
+        holds(rt, shelf, "o.1.pcap", row.outputs[1], row.note);
+    } else {
+        same(rt, &shelf.file("o.1.pcap"), &None, row.note);
+    }
+}
+
+/// Runs a row.
+pub fn check<R: Sync + AllocGlobal + Abort>(rt: &R, row: &Row<'_>) {
+    let mut shelf = shelf_of(rt, row);
+    ends_so(rt, &mut shelf, &wanted(&row.end), row.note);
+    wrote(rt, &shelf, row);
+}
