@@ -1,0 +1,13 @@
+pub mod Sums
+pub mod Logs
+pub mod Rising
+pub mod Told
+pub mod Moves
+pub mod Passes
+pub mod Tables
+pub mod Dealt
+pub mod Joined
+pub mod Filled
+pub mod Ended
+pub mod OneSeat
+pub mod Callers

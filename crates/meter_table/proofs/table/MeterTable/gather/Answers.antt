@@ -1,0 +1,86 @@
+use Rattle.std.proofs.Common.{◌≡◌, ◌<◌, ◌+◌, ℕ, List, Some, length, slice_get, rules, arith, refl, ap, sym, ◌∙◌, subst, ⊎_elim}
+use Rattle.std.proofs.lemmas.Option.{none-some, slice_get_within, same_Some}
+use Rattle.crossbeam_utils.specs.Seq.{cell_view}
+use Rattle.meter_table.specs.declared.mark.MeterLog.{MeterLog}
+use Rattle.meter_table.specs.declared.rule.View.{View}
+use Rattle.meter_table.specs.declared.seat.MeterSeat.{MeterSeat}
+use Rattle.meter_table.specs.Kept.{IsSeen}
+use Rattle.meter_table.specs.Logs.{AreAllMarks, IsLogOf}
+use Rattle.meter_table.specs.Seats.{settings_of, view_at}
+use Rattle.meter_table.proofs.Moves.{looks}
+use Rattle.meter_table.proofs.Logs.{at_push}
+use Rattle.meter_table.proofs.Passes.{APass, read, alike_at, view_is}
+use Rattle.meter_table.proofs.Tables.{pass_read, pass_meter, setting_at}
+use Rattle.meter_table.proofs.Ended.{whole_of, look_whole, fills, log_is}
+use Rattle.meter_table.proofs.table.MeterTable.gather.Goals as goal
+
+pub loop-n-init : goal.loop-n-init
+loop-n-init g c =
+    let all = c.join_all-all.ensures in
+    record {
+      whole = whole_of c.args.self c.args.seats.items c.pop.new.self.items c.in-Some.first c.join_all-all.result c.requires.seats c.in-Some.ensures.items all.seat all.parts all.made all.stand;
+      count = search rules;
+      logs = λ k setting log at at'. absurd (none-some log (sym (ap (λ l. slice_get l k) c.in_ok-logs.ensures.items) ∙ at'));
+      room = search rules;
+    }
+
+pub load_as-seen-requires : goal.load_as-seen-requires
+load_as-seen-requires g c =
+    let t = c.args.self in
+    let all : MeterSeat = c.loop-n.all in
+    let n = c.loop-n.n in
+    let p : APass = c.index_mut.result.now in
+    let has = c.loop-n.invariant.whole.has in
+    let pass = pass_read t all has n p (omega arith) c.index_mut.ensures.value in
+    let cell = read t.cells.items n c.index.result.now (omega arith) c.index.ensures in
+    (search rules, (search rules, (alike_at (λ (q : APass). q.table_id) (λ x. x.table.shared.table_id) all.passes.items t.cells.items n p c.index.result.now has.cells pass cell, looks _ _)))
+
+pub log_of-requires : goal.log_of-requires
+log_of-requires g c =
+    let t = c.args.self in
+    let all : MeterSeat = c.loop-n.all in
+    let n = c.loop-n.n in
+    let p : APass = c.index_mut.result.now in
+    let whole = c.loop-n.invariant.whole in
+    let pass = pass_read t all whole.has n p (omega arith) c.index_mut.ensures.value in
+    let known = pass_meter t all whole.has n p (omega arith) pass in
+    let setting = known.0.setting in
+    let words = c.load_as-seen.result in
+    let seen = subst (λ v. IsSeen n setting v words) (sym (view_is n all p pass)) (c.load_as-seen.ensures.rule.seen n setting known.2) in
+    let marks = c.as_slice.result.now in
+    let are = subst (AreAllMarks c.args.seats.items) (sym c.as_slice.ensures.value) c.requires.marks in
+    (seen.log, fills t c.args.seats.items marks all c.requires.seats are whole n setting words (setting_at t n known.0 known.1) seen, sym seen.cell.count)
+
+pub loop-n-preserved : goal.loop-n-preserved
+loop-n-preserved g c =
+    let t = c.args.self in
+    let seats = c.args.seats.items in
+    let all : MeterSeat = c.loop-n.all in
+    let n = c.loop-n.n in
+    let p : APass = c.index_mut.result.now in
+    let was = c.loop-n.invariant in
+    let pass = pass_read t all was.whole.has n p (omega arith) c.index_mut.ensures.value in
+    let known = pass_meter t all was.whole.has n p (omega arith) pass in
+    let words = c.load_as-seen.result in
+    let made = c.in_ok-log_of.ensures in
+    let marks = c.as_slice.result.now in
+    let are = subst (AreAllMarks seats) (sym c.as_slice.ensures.value) c.requires.marks in
+    let new : IsLogOf n known.0.setting seats c.in_ok-log_of.field-0 =
+    let setting = known.0.setting in
+    let seen = subst (λ v. IsSeen n setting v words) (sym (view_is n all p pass)) (c.load_as-seen.ensures.rule.seen n setting known.2) in
+    let at = setting_at t n known.0 known.1 in
+    let filled = fills t seats marks all c.requires.seats are was.whole n setting words at seen in
+    log_is t seats marks all c.requires.seats are was.whole n setting words at seen _ made.meter (made.marks seen.log filled (sym seen.cell.count)) in
+    record {
+      whole = look_whole t seats all _ n p c.load_as-seen.new.pass was.whole (record { items = refl; was = pass; cell = c.load_as-seen.ensures.cell.0 }) c.load_as-seen.ensures.rule.view;
+      count = search rules;
+      logs = λ k setting log at_k at_log.
+          ⊎_elim
+          (λ old. was.logs k setting log at_k old)
+          (λ last.
+          let number : n ≡ k = omega (arith, last.0, was.count) in
+          let same : known.0.setting ≡ setting = same_Some _ _ (sym (setting_at t n known.0 known.1) ∙ ap (slice_get (settings_of t)) number ∙ at_k) in
+          subst (λ j. IsLogOf j setting seats log) number (subst (λ s. IsLogOf n s seats log) same (subst (λ l. IsLogOf n known.0.setting seats l) last.1 new)))
+          (at_push c.loop-n.logs.items c.in_ok-log_of.field-0 log k (ap (λ l. slice_get l k) (sym c.push_reserved.ensures.items) ∙ at_log));
+      room = search rules;
+    }
