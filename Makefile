@@ -1,5 +1,6 @@
 # make: proves and builds the program with all processors, and puts the gateway's capture through the gateway's profile.
 # make demo: compiles the program without its proofs, in seconds, and does the same.
+# PROFILE=examples/metered.profile behind either: the gateway with meters.
 # make install PREFIX=DIR: puts the built program at DIR/bin/qos.
 # make bench: how fast the built program is on a million packets, beside a plain copy.
 
@@ -27,7 +28,8 @@ all:
 	@rm -f $(OUT).*.pcap
 	@cd crates/qos && rt run -- $(WORDS) 2>out/make.log \
 	  || { tail -n 20 out/make.log; exit 1; }
-	@echo "The program is $(PROGRAM); it wrote $(OUT).0.pcap."
+	@echo "The program is $(PROGRAM); above is its report. It wrote" $(OUT).*.pcap
+	@echo "By class and subscriber (examples/summary.py):"
 	@echo
 	@$(SUMMARY)
 
@@ -44,9 +46,12 @@ demo:
 	@rm -f $(OUT).*.pcap
 	@echo "Compiling the program without its proofs (make builds it with them), and then:"
 	@echo "qos run --profile $(PROFILE) --out $(OUT) $(IN)"
+	@echo
 	@cd crates/qos && rt try --seconds 300 -- $(WORDS) 2>"$(CURDIR)/demo/try.log" \
 	  || { tail -n 20 "$(CURDIR)/demo/try.log"; exit 1; }
-	@echo "It wrote $(OUT).0.pcap. What came of it (examples/summary.py):"
+	@echo
+	@echo "Above is its report. It wrote" $(OUT).*.pcap
+	@echo "By class and subscriber (examples/summary.py):"
 	@echo
 	@$(SUMMARY)
 

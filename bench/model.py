@@ -2,62 +2,79 @@
 
 usage: model.py PROFILE PREFIX CAPTURE
 
-It reads both files, writes PREFIX.n.pcap for each port n as the program should, prints the status and ends with it: 0; 3
-where PROFILE is at fault, after a line that says where; 6 where CAPTURE is no whole capture; 9 where a rule names a meter.
-It knows nothing of names, failures and memory. The rules are those of docs/DEFINITIONS.md and docs/PROFILE.md.
+It does what `qos run --profile PROFILE --out PREFIX CAPTURE` should do: it writes PREFIX.n.pcap for each port n, prints the
+report and ends with its status. It knows nothing of reads that fail midway, of writes that fail and of memory, so nothing
+is unwritten, and no record is without a slot yet. The rules are those of docs/DEFINITIONS.md and docs/PROFILE.md.
 """
 
 import struct
 import sys
+from collections import Counter, namedtuple
 from math import lcm
 
+from model_meter import Meter
 from model_profile import SECOND, Fault, read_profile
 
+UNITS = {0xA1B23C4D: 1, 0xA1B2C3D4: 1000}
+BAD_MAGIC, BAD_VERSION, BAD_LINK, CUT_HEADER, CUT_RECORD, HUGE_RECORD = range(1, 7)
 MOST_CAPTURED, LAST_MOMENT = 262_144, 2**50
 LAST_STAMP = (2**32 - 1) * SECOND + SECOND - 1
-MOST_SHARE = 2**48
+MOST_SHARE, MOST_PORTS = 2**48, 16
+REASONS = ("unparsed", "unmatched", "oversize", "toolong", "noslot", "policed", "tailfull")
 
 
 # ---- captures
 
 def form_of(data):
-    """The byte order of a capture and its unit in nanoseconds, or None where the header is at fault."""
-    if len(data) < 24:
-        return None
+    """The byte order of a capture and its unit in nanoseconds, or None where it begins with no magic."""
     for order in "<>":
-        magic, major = struct.unpack(order + "IH", data[:6])
-        link = struct.unpack(order + "I", data[20:24])[0] % 2**16
-        if magic in (0xA1B23C4D, 0xA1B2C3D4):
-            unit = 1 if magic == 0xA1B23C4D else 1000
-            return (order, unit) if (major, link) == (2, 1) else None
+        unit = UNITS.get(struct.unpack(order + "I", data[:4])[0])
+        if unit:
+            return order, unit
     return None
 
 
-def read(data):
-    """The records (stamp, length on the line, bytes), the stamp of the first head, and whether the capture is whole."""
+def header_fault(data):
+    """The fault of a capture's header and where it is, or None."""
+    if len(data) < 24:
+        return CUT_HEADER, len(data)
     form = form_of(data)
     if form is None:
-        return [], 0, False
-    records, origin, at = [], None, 24
+        return BAD_MAGIC, 0
+    major, link = struct.unpack(form[0] + "4xH14xI", data[:24])
+    return (BAD_VERSION, 0) if major != 2 else (BAD_LINK, 0) if link % 2**16 != 1 else None
+
+
+def read(data):
+    """The records (stamp, length on the line, bytes), the first head's stamp or 0, and the fault, or None in a whole capture."""
+    fault = header_fault(data)
+    if fault:
+        return [], 0, fault
+    (order, unit), records, origin, at = form_of(data), [], 0, 24
     while at < len(data):
         if len(data) < at + 16:
-            return records, origin or 0, False
-        seconds, fraction, captured, original = struct.unpack(form[0] + "IIII", data[at : at + 16])
+            return records, origin, (CUT_RECORD, at)
+        seconds, fraction, captured, original = struct.unpack(order + "IIII", data[at : at + 16])
         if captured > MOST_CAPTURED:
-            return records, origin or 0, False
-        stamp = seconds * SECOND + fraction * form[1]
-        origin = stamp if origin is None else origin
+            return records, origin, (HUGE_RECORD, at)
+        stamp = seconds * SECOND + fraction * unit
+        origin = stamp if at == 24 else origin
         if len(data) < at + 16 + captured:
-            return records, origin, False
+            return records, origin, (CUT_RECORD, at)
         records.append((stamp, max(captured, original), data[at + 16 : at + 16 + captured]))
         at += 16 + captured
-    return records, origin or 0, True
+    return records, origin, None
 
 
 # ---- frames and rules
 
+# The bytes of a frame's link header and tags, its outer VLAN id, protocol, code point and IPv4 addresses.
+Frame = namedtuple("Frame", "header vlan protocol code_point source destination", defaults=(0, 0, 0))
+Place = namedtuple("Place", "port subport pipe queue colour meter")
+
+
 def look(frame):
-    """What a frame says: its outer VLAN id, protocol, code point and IPv4 addresses; None where it is cut short or no such frame."""
+    """What a frame says; None where it is cut short or no such frame."""
     if len(frame) < 14:
         return None
     kind, header, vlan = frame[12:14], 14, None
@@ -72,14 +89,15 @@ def look(frame):
     if kind == b"\x08\x00":
         if len(body) < 20 or body[0] >> 4 != 4 or body[0] % 16 < 5:
             return None
-        return vlan, "ipv4", body[1] >> 2, int.from_bytes(body[12:16], "big"), int.from_bytes(body[16:20], "big")
+        addresses = (int.from_bytes(body[at : at + 4], "big") for at in (12, 16))
+        return Frame(header, vlan, "ipv4", body[1] >> 2, *addresses)
     if kind == b"\x86\xdd":
         if len(body) < 40 or body[0] >> 4 != 6:
             return None
-        return vlan, "ipv6", (int.from_bytes(body[:2], "big") >> 4) % 256 >> 2, 0, 0
+        return Frame(header, vlan, "ipv6", (int.from_bytes(body[:2], "big") >> 4) % 256 >> 2)
     if kind == b"\x88\x47":
-        return (vlan, "mpls", 0, 0, 0) if len(body) >= 4 else None
-    return vlan, "other", 0, 0, 0
+        return Frame(header, vlan, "mpls") if len(body) >= 4 else None
+    return Frame(header, vlan, "other")
 
 
 def lies_in(prefix, protocol, address):
@@ -87,22 +105,55 @@ def lies_in(prefix, protocol, address):
 
 
 def place(profile, number, frame):
-    """Port, subport, pipe and queue by the first rule that matches, or None."""
-    vlan, protocol, code_point, source, destination = frame
+    """Where the first rule that matches puts a frame of an input, with its colour before a meter and its meter; or None."""
+    by_frame = {"vlan": frame.vlan, "host": frame.destination % 4096 if frame.protocol == "ipv4" else None}
     for rule in profile.rules:
-        pipe = {"vlan": vlan, "host": destination % 4096 if protocol == "ipv4" else None}.get(rule["pipe"], rule["pipe"])
+        pipe = by_frame.get(rule["pipe"], rule["pipe"])
         if (
             rule["input"] in ("any", number)
-            and rule["vlan"] in ("any", "none" if vlan is None else vlan)
-            and rule["proto"] in ("any", protocol)
-            and lies_in(rule["src"], protocol, source)
-            and lies_in(rule["dst"], protocol, destination)
+            and rule["vlan"] in ("any", "none" if frame.vlan is None else frame.vlan)
+            and rule["proto"] in ("any", frame.protocol)
+            and lies_in(rule["src"], frame.protocol, frame.source)
+            and lies_in(rule["dst"], frame.protocol, frame.destination)
             and pipe is not None
             and pipe < len(profile.ports[rule["port"]]["subports"][rule["subport"]]["pipes"])
         ):
-            traffic_class, queue, _ = profile.codes[code_point] if rule["code"] == "dscp" else rule["code"]
-            return rule["port"], rule["subport"], pipe, 12 + queue if traffic_class == 12 else traffic_class
+            traffic_class, queue, colour = profile.codes[frame.code_point] if rule["code"] == "dscp" else rule["code"]
+            queue += 12 if traffic_class == 12 else traffic_class
+            return Place(rule["port"], rule["subport"], pipe, queue, colour, rule["meter"])
     return None
+
+
+def meters_of(profile):
+    """The meters by name, each as it starts."""
+    return {plan["name"]: Meter(plan) for plan in profile.meters}
+
+
+def fate(profile, meters, record, moment):
+    """Why a record is lost before it arrives at its port, or None, and its place where it has one. Its meter marks it."""
+    _, wire, body = record
+    if len(body) > profile.pool["slot bytes"]:
+        return "toolong", None
+    frame = look(body)
+    if frame is None:
+        return "unparsed", None
+    spot = place(profile, 0, frame)
+    if spot is None:
+        return "unmatched", None
+    if wire > profile.ports[spot.port]["mtu"]:
+        return "oversize", spot
+    if spot.meter is not None:
+        _, is_dropped = meters[spot.meter].mark(moment, wire - frame.header, spot.colour)
+        if is_dropped:
+            return "policed", spot
+    return None, spot
+
+
+def receive(profile, meters, records, origin):
+    """Each record with its moment, why it is lost before it arrives at its port, or None, and its place where it has one."""
+    for record in records:
+        moment = min(max(record[0] - origin, 0), LAST_MOMENT)
+        yield record, moment, *fate(profile, meters, record, moment)
 
 
 # ---- the scheduler
@@ -188,7 +239,7 @@ class Port:
         self.overhead, self.burst, self.quantum = plan["frame overhead"], plan["burst"], plan["quantum"]
         self.subports = [Subport(subport, plan["mtu"] + self.overhead) for subport in plan["subports"]]
         self.cursor, self.time, self.clock, self.went, self.waiting = 0, 0, 0, False, 0
-        self.sends, self.dropped, self.dequeues = [], 0, 0
+        self.sends, self.arrived, self.dropped, self.dequeues = [], 0, 0, 0
 
     def send(self, subport, pipe, queue):
         """Sends the packet at the front of a queue where all credits allow it, and answers whether they do."""
@@ -256,11 +307,12 @@ class Port:
             self.dequeue(moment)
         self.clock = max(self.clock, aim)
 
-    def arrive(self, now, subport, pipe, queue, record):
+    def arrive(self, now, spot, record):
         self.advance(now)
-        owner = self.subports[subport].pipes[pipe]
-        if len(owner.queues[queue]) < owner.sizes[queue]:
-            owner.queues[queue].append(record)
+        self.arrived += 1
+        owner = self.subports[spot.subport].pipes[spot.pipe]
+        if len(owner.queues[spot.queue]) < owner.sizes[spot.queue]:
+            owner.queues[spot.queue].append(record)
             self.waiting += 1
         else:
             self.dropped += 1
@@ -270,19 +322,21 @@ class Port:
 
 # ---- the run
 
-def run(profile, records, origin):
-    """The ports after all records and their drains."""
-    ports = [Port(plan) for plan in profile.ports]
-    for record in records:
-        frame = look(record[2]) if len(record[2]) <= profile.pool["slot bytes"] else None
-        spot = place(profile, 0, frame) if frame else None
-        if spot is None or record[1] > profile.ports[spot[0]]["mtu"]:
-            continue
-        moment = min(max(record[0] - origin, 0), LAST_MOMENT)
-        ports[spot[0]].arrive(moment * profile.ports[spot[0]]["line rate"] // SECOND, *spot[1:], record)
-    for port, plan in zip(ports, profile.ports):
-        port.advance(port.clock + plan["drain"])
-    return ports
+class Run:
+    """All records through a profile, with each port's drain: the ports, the meters, and how many records are lost, by reason."""
+
+    def __init__(self, profile, records, origin):
+        self.ports = [Port(plan) for plan in profile.ports]
+        self.meters = meters_of(profile)
+        self.lost = Counter()
+        for record, moment, reason, spot in receive(profile, self.meters, records, origin):
+            if reason:
+                self.lost[reason] += 1
+            else:
+                self.ports[spot.port].arrive(moment * profile.ports[spot.port]["line rate"] // SECOND, spot, record)
+        for port, plan in zip(self.ports, profile.ports):
+            port.advance(port.clock + plan["drain"])
+        self.lost["tailfull"] = sum(port.dropped for port in self.ports)
 
 
 def output(port, plan, origin):
@@ -294,26 +348,81 @@ def output(port, plan, origin):
     return b"".join(parts)
 
 
-def end(status):
-    print(f"status {status}")
-    sys.exit(status)
+# ---- the report
+
+def line(head, **numbers):
+    return " ".join([head, *(f"{name} {number}" for name, number in numbers.items())])
 
 
-def main():
-    names, prefix = (sys.argv[1], sys.argv[3]), sys.argv[2]
-    text, data = (open(name, "rb").read() for name in names)
+def input_line(run, records):
+    """What became of the records of the only input."""
+    sent, left = sum(len(port.sends) for port in run.ports), sum(port.waiting for port in run.ports)
+    reasons = {reason: run.lost[reason] for reason in REASONS}
+    return line("input 0", read=len(records), sent=sent, left=left, **reasons, unwritten=0)
+
+
+def port_line(number, port):
+    numbers = {"arrived": port.arrived, "sent": len(port.sends), "left": port.waiting, "tailfull": port.dropped}
+    return line(f"port {number}", **numbers, unwritten=0, dequeues=port.dequeues, time=port.time)
+
+
+def report(profile, run, records, stopped):
+    """The report's lines but for the last, the status."""
+    lines = [f"note line {number} skipped" for number in profile.skipped]
+    lines += [input_line(run, records)] + [f"input 0 {stopped}"] * bool(stopped)
+    lines += [port_line(number, port) for number, port in enumerate(run.ports)]
+    return lines + [line(f"meter {meter.name}", **meter.counts) for meter in run.meters.values()]
+
+
+# ---- the command
+
+def are_misused(words):
+    """Whether words are no profile, prefix and capture: none looks like an option, and no output is a file that is read."""
+    if len(words) != 3 or any(not word or word.startswith("-") for word in words):
+        return True
+    outputs = [f"{words[1]}.{number}.pcap" for number in range(MOST_PORTS)]
+    return words[0] in outputs or words[2] in outputs
+
+
+def load(name):
+    """A file's bytes, or None where it can't be opened."""
+    try:
+        with open(name, "rb") as file:
+            return file.read()
+    except OSError:
+        return None
+
+
+def schedule(profile, data):
+    """The status, the report's lines and the outputs of a capture's bytes, which are None where it can't be opened."""
+    records, origin, fault = ([], 0, None) if data is None else read(data)
+    stopped = "not opened" if data is None else "fault {} at {}".format(*fault) if fault else ""
+    run = Run(profile, records, origin)
+    outputs = [output(port, plan, origin) for port, plan in zip(run.ports, profile.ports)]
+    return 4 if data is None else 6 if fault else 0, report(profile, run, records, stopped), outputs
+
+
+def answer(words):
+    """The status, the report's lines, and the bytes of each port's output."""
+    if are_misused(words):
+        return 2, ["usage"], []
+    text = load(words[0])
+    if text is None:
+        return 4, ["profile read fault"], []
     try:
         profile = read_profile(text)
     except Fault as fault:
-        print(f"profile line {fault.line} fault {fault.kind}")
-        end(3)
-    if any(rule["meter"] is not None for rule in profile.rules):
-        end(9)
-    records, origin, whole = read(data)
-    for number, (port, plan) in enumerate(zip(run(profile, records, origin), profile.ports)):
-        with open(f"{prefix}.{number}.pcap", "wb") as file:
-            file.write(output(port, plan, origin))
-    end(0 if whole else 6)
+        return 3, [f"profile line {fault.line} fault {fault.kind}"], []
+    return schedule(profile, load(words[2]))
+
+
+def main():
+    status, lines, outputs = answer(sys.argv[1:])
+    for number, data in enumerate(outputs):
+        with open(f"{sys.argv[2]}.{number}.pcap", "wb") as file:
+            file.write(data)
+    print(*lines, f"status {status}", sep="\n")
+    sys.exit(status)
 
 
 if __name__ == "__main__":

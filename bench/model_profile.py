@@ -456,7 +456,8 @@ class Profile:
         if self.at("codes"):
             self.codes.update(self.at("codes").given)
         self.rules = [{key: rule.given.get(key, default) for key, (_, default) in RULE.items()} for rule in self.all_of("rule")]
-        self.meters = self.all_of("meter")
+        self.meters = [self.meter(section) for section in self.sections if section.kind == "meter"]
+        self.skipped = [section.line for section in self.sections if section.kind == "red"]
         self.ports = [self.port(section) for section in self.all_of("port")]
 
     def port(self, section):
@@ -479,6 +480,19 @@ class Profile:
     def pipe(section, line):
         weights, weight = (section.given.get(key, default) for key, (_, default) in PIPE_PROFILE.items())
         return {"shaping": shaping_of(section, line), "weights": weights, "weight": weight}
+
+    @staticmethod
+    def meter(section):
+        """A meter's rates and sizes, and the colours whose packets it drops."""
+        given, kind = section.given, section.given["kind"]
+        rates, sizes = METER_RATES[kind], METER_SIZES[kind]
+        actions = zip(COLOURS, ("pass", "pass", "drop"))
+        return {
+            "name": section.head[0], "kind": kind, "aware": given.get("mode") == "aware",
+            "cir": section.meter_rate("cir"), "other rate": section.meter_rate(rates[1]) if len(rates) > 1 else (0, 1),
+            "cbs": given["cbs"], "other size": given[sizes[1]],
+            "drops": {colour for colour, action in actions if given.get(colour, action) == "drop"},
+        }
 
     def refuse_large(self):
         subports = [subport for port in self.ports for subport in port["subports"]]

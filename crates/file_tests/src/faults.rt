@@ -1,10 +1,13 @@
 //! Calls of the outside that fail, one or more in a run of three frames over two ports.
 use crate::build::{FIRST, PROFILE, SECOND, capture, input};
 use crate::faulty::{Call, FaultyShelf, Planned};
-use crate::seen::{FINE, NOTHING, PortNumbers, Seen, report_of, run, same, wanted};
+use crate::seen::{FINE, NOTHING, PortNumbers, Seen, UNREAD, run, same, says, wanted};
+use crate::text::report_of;
 use qos_io::{MemShelf, PutFault, WholeSink};
 use qos_pcap::{PcapFault, Stop};
 use std::process::Abort;
+use std::sync::Wait;
+use std::thread::Threads;
 
 /// Which calls fail, and what the run comes to.
 #[derive(Clone, Copy)]
@@ -53,20 +56,20 @@ fn shelf_of<R: AllocGlobal + Abort>(rt: &R, less: usize) -> MemShelf {
     shelf
 }
 
-// The file of this name has so many of these bytes, or there is none.
-fn holds<R: Abort>(rt: &R, shelf: &MemShelf, name: &str, whole: &[u8], size: Option<usize>) {
+/// The file of this name has so many of these bytes, or there is none.
+pub fn holds<R: Abort>(rt: &R, shelf: &MemShelf, name: &str, whole: &[u8], size: Option<usize>) {
     let first = size.map(|size| &whole[..size.min(whole.len())]);
     same(rt, &shelf.file(name), &first, name);
 }
 
 /// Runs a row.
-pub fn check<R: Sync + AllocGlobal + Abort>(rt: &R, row: &Row<'_>) {
+pub fn check<R: Threads + Wait + Sync + AllocGlobal + Abort>(rt: &R, row: &Row<'_>) {
     let mut shelf = FaultyShelf::new(rt.alloc(), shelf_of(rt, row.less), row.plan);
     let mut said = WholeSink::new(rt.alloc());
     let found = run(rt, "run --profile p --out o a", &mut shelf, &mut said);
-    same(rt, &found, &wanted(&row.end), "how it ended");
-    let report = report_of(row.end.status);
-    same(rt, &said.bytes(), &report.as_slice(), "the report");
+    let expected = wanted(&row.end);
+    same(rt, &found, &expected, "how it ended");
+    says(rt, said.bytes(), report_of(rt, &expected).as_str());
     let (first, second) = (capture(rt, &FIRST), capture(rt, &SECOND));
     holds(rt, &shelf.files, "o.0.pcap", &first, row.files[0]);
     holds(rt, &shelf.files, "o.1.pcap", &second, row.files[1]);
@@ -84,10 +87,7 @@ fn the_profile_fails(rt: HostRuntime) {
         let plan = [failed("p", call)];
         let row = Row {
             plan: &plan,
-            end: Seen {
-                status: 4,
-                ..NOTHING
-            },
+            end: UNREAD,
             ..NONE
         };
         check(&rt, &row);
@@ -112,7 +112,7 @@ const READS: [(u32, PortNumbers, PortNumbers, [usize; 2]); 8] = [
     (7, [2, 2, 0, 0, 0, 2, 168], ONE, [176, 100]),
 ];
 
-fn check_read<R: Sync + AllocGlobal + Abort>(
+fn check_read<R: Threads + Wait + Sync + AllocGlobal + Abort>(
     rt: &R,
     row: (u32, PortNumbers, PortNumbers, [usize; 2]),
 ) {
@@ -162,7 +162,12 @@ fn the_capture_is_not_opened(rt: HostRuntime) {
 // before it, and how many bytes.
 const PUTS: [(u32, u64, usize); 5] = [(0, 0, 0), (1, 0, 24), (2, 0, 40), (3, 1, 100), (4, 1, 116)];
 
-fn check_first<R: Sync + AllocGlobal + Abort>(rt: &R, call: Call, sent: u64, file: Option<usize>) {
+fn check_first<R: Threads + Wait + Sync + AllocGlobal + Abort>(
+    rt: &R,
+    call: Call,
+    sent: u64,
+    file: Option<usize>,
+) {
     let plan = [failed("o.0.pcap", call)];
     let row = Row {
         plan: &plan,
@@ -178,7 +183,12 @@ fn check_first<R: Sync + AllocGlobal + Abort>(rt: &R, call: Call, sent: u64, fil
     check(rt, &row);
 }
 
-fn check_second<R: Sync + AllocGlobal + Abort>(rt: &R, call: Call, sent: u64, file: Option<usize>) {
+fn check_second<R: Threads + Wait + Sync + AllocGlobal + Abort>(
+    rt: &R,
+    call: Call,
+    sent: u64,
+    file: Option<usize>,
+) {
     let plan = [failed("o.1.pcap", call)];
     let row = Row {
         plan: &plan,

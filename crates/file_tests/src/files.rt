@@ -1,6 +1,7 @@
 //! Commands on the files of the system. Each test has names of its own in the folder where the tests run.
 use crate::build::{FIRST, PROFILE, SECOND, Sent, capture, input};
-use crate::seen::{FINE, NOTHING, Seen, report_of, run, same, wanted};
+use crate::seen::{FINE, Seen, UNREAD, run, same, says, wanted};
+use crate::text::report_of;
 use qos_io::WholeSink;
 use qos_main::FileShelf;
 use qos_pcap::{PcapFault, Stop};
@@ -9,6 +10,8 @@ use std::fs::File;
 use std::os::unix;
 use std::process::Abort;
 use std::rt::Files;
+use std::sync::Wait;
+use std::thread::Threads;
 
 // Makes a file.
 fn make<R: Files + Abort>(rt: &R, name: &str, bytes: &[u8]) {
@@ -26,11 +29,16 @@ fn holds<R: Files + AllocGlobal + Abort>(rt: &R, name: &str, frames: &[Sent], no
     has(rt, name, &capture(rt, frames), note);
 }
 
-fn check<R: Files<File = File> + Sync + AllocGlobal + Abort>(rt: &R, words: &str, end: &Seen) {
+fn check<R: Files<File = File> + Threads + Wait + Sync + AllocGlobal + Abort>(
+    rt: &R,
+    words: &str,
+    end: &Seen,
+) {
     let mut said = WholeSink::new(rt.alloc());
     let found = run(rt, words, &mut FileShelf::new(rt), &mut said);
-    same(rt, &found, &wanted(end), words);
-    same(rt, &said.bytes(), &report_of(end.status).as_slice(), words);
+    let expected = wanted(end);
+    same(rt, &found, &expected, words);
+    says(rt, said.bytes(), report_of(rt, &expected).as_str());
 }
 
 #[test]
@@ -94,7 +102,10 @@ fn linked<R: Files + Abort>(rt: &R, name: &str, bytes: &[u8], soft: &str, hard: 
     fs::hard_link(rt, name, hard).expect(rt, "a link");
 }
 
-fn check_kept<R: Files<File = File> + Sync + AllocGlobal + Abort>(rt: &R, row: (&str, &str)) {
+fn check_kept<R: Files<File = File> + Threads + Wait + Sync + AllocGlobal + Abort>(
+    rt: &R,
+    row: (&str, &str),
+) {
     let (words, other) = row;
     check(rt, words, &KEPT);
     has(rt, "kept.0.pcap", &input(rt), words);
@@ -137,7 +148,7 @@ const UNWRITTEN: Seen = Seen {
     ..FINE
 };
 
-const UNREAD: Seen = Seen {
+const NO_CAPTURE: Seen = Seen {
     status: 4,
     stopped: Stop::Fault(PcapFault::Read),
     first: [0; 7],
@@ -147,21 +158,16 @@ const UNREAD: Seen = Seen {
 
 const UNOPENED: Seen = Seen {
     stopped: Stop::NotOpened,
-    ..UNREAD
-};
-
-const NO_PROFILE: Seen = Seen {
-    status: 4,
-    ..NOTHING
+    ..NO_CAPTURE
 };
 
 // A folder opens, and fails when it is read; in a folder that is not there nothing is opened or created.
 const OUTSIDE: [(&str, Seen); 5] = [
     ("run --profile terms --out absent/o ours", UNWRITTEN),
-    ("run --profile terms --out unread .", UNREAD),
+    ("run --profile terms --out unread .", NO_CAPTURE),
     ("run --profile terms --out unopened absent/a", UNOPENED),
-    ("run --profile . --out never ours", NO_PROFILE),
-    ("run --profile absent/p --out never ours", NO_PROFILE),
+    ("run --profile . --out never ours", UNREAD),
+    ("run --profile absent/p --out never ours", UNREAD),
 ];
 
 #[test]

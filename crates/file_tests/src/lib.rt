@@ -1,8 +1,9 @@
 //! Tests of whole commands over calls of the outside that fail, and over the system's files, by the public calls of
 //! `qos_main`.
 //!
-//! They stand apart so that `qos_main` is proved once, and from the tests over files in memory so that both are proved side
-//! by side. The expected numbers are worked by hand, from the rules of pacing and of the capture format.
+//! They stand apart so that `qos_main` is proved once, and from the tests over files in memory so that both are proved
+//! side by side. The expected numbers are worked by hand, from the rules of pacing, of meters and of the capture
+//! format.
 #![tactic(auto)]
 
 #[cfg(test)]
@@ -19,3 +20,7 @@ mod memory;
 mod seen;
 #[cfg(test)]
 mod system;
+#[cfg(test)]
+mod text;
+#[cfg(test)]
+mod whole;

@@ -1,10 +1,12 @@
 //! What a command over two ports ended with, in one value that tests compare.
 use crate::build::words_of;
 use qos_io::{OpenGate, Shelf, Sink};
-use qos_main::{Ended, PortEnd, qos_top};
+use qos_main::{Ended, InputEnd, Note, PortEnd, qos_top};
 use qos_pcap::Stop;
 use std::fmt::Debug;
 use std::process::Abort;
+use std::sync::Wait;
+use std::thread::Threads;
 
 /// The numbers of a port: arrived, sent, left, turned away, not put, dequeues and time.
 pub type PortNumbers = [u64; 7];
@@ -13,47 +15,65 @@ pub type PortNumbers = [u64; 7];
 #[derive(Clone, Copy, Debug, PartialEq, Eq)]
 pub struct Seen {
     pub status: u8,
+    pub note: Note,
     pub stopped: Stop,
     pub first: PortNumbers,
     pub second: PortNumbers,
     pub write_faults: [bool; 2],
-    /// How many ports, inputs and write faults are listed.
-    pub lists: [usize; 3],
+    /// How many ports, inputs, write faults and meters are listed.
+    pub lists: [usize; 4],
     /// The numbers of the input: read, sent, left, not put.
     pub input: [u64; 4],
+    /// How many of its records were lost for each reason.
+    pub reasons: [u64; 7],
 }
 
 /// Nothing was scheduled.
 pub const NOTHING: Seen = Seen {
     status: 0,
+    note: Note::Nothing,
     stopped: Stop::NotOpened,
     first: [0; 7],
     second: [0; 7],
     write_faults: [false; 2],
-    lists: [0; 3],
+    lists: [0; 4],
     input: [0; 4],
+    reasons: [0; 7],
+};
+
+/// The profile could not be read.
+pub const UNREAD: Seen = Seen {
+    status: 4,
+    note: Note::ProfileRead,
+    ..NOTHING
 };
 
 /// Three frames at one moment are sent: a frame costs 84.
 pub const FINE: Seen = Seen {
     status: 0,
+    note: Note::Nothing,
     stopped: Stop::End,
     first: [2, 2, 0, 0, 0, 2, 168],
     second: [1, 1, 0, 0, 0, 1, 84],
     write_faults: [false; 2],
-    lists: [2, 1, 2],
+    lists: [2, 1, 2, 0],
     input: [0; 4],
+    reasons: [0; 7],
 };
 
-/// What is seen where a command comes to this: the input's numbers are the sums of the ports'.
+/// What is seen where a command comes to this: the input's numbers are the sums of the ports', and so many more records
+/// are read as are lost before they come to a port.
 pub fn wanted(end: &Seen) -> Seen {
     let mut sums = end.first;
     for (sum, more) in sums.iter_mut().zip(end.second) {
         *sum = sum.saturating_add(more);
     }
-    let [arrived, sent, left, _, unwritten, _, _] = sums;
+    let [mut read, sent, left, _, unwritten, _, _] = sums;
+    for lost in &end.reasons[..6] {
+        read = read.saturating_add(*lost);
+    }
     Seen {
-        input: [arrived, sent, left, unwritten],
+        input: [read, sent, left, unwritten],
         ..*end
     }
 }
@@ -74,27 +94,34 @@ fn numbers(port: Option<&PortEnd>) -> PortNumbers {
     ]
 }
 
+fn see_input(seen: &mut Seen, input: &InputEnd) {
+    let reasons = input.reasons;
+    seen.input = [input.read, input.sent, input.left, input.unwritten];
+    seen.reasons = reasons;
+    seen.stopped = input.stopped;
+}
+
 /// What is seen of an end.
 pub fn gather(ended: &Ended) -> Seen {
     let (ports, inputs) = (ended.ports.as_slice(), ended.inputs.as_slice());
-    let faults = ended.write_fault.as_slice();
+    let (faults, logs) = (ended.write_fault.as_slice(), ended.meters.as_slice());
     let mut seen = Seen {
         status: ended.status,
+        note: ended.note,
         first: numbers(ports.first()),
         second: numbers(ports.get(1)),
         write_faults: [faults.first() == Some(&true), faults.get(1) == Some(&true)],
-        lists: [ports.len(), inputs.len(), faults.len()],
+        lists: [ports.len(), inputs.len(), faults.len(), logs.len()],
         ..NOTHING
     };
     if let [input] = inputs {
-        seen.input = [input.read, input.sent, input.left, input.unwritten];
-        seen.stopped = input.stopped;
+        see_input(&mut seen, input);
     }
     seen
 }
 
 /// Runs a command; the report goes to `said`.
-pub fn run<R: Sync + AllocGlobal + Abort, H: Shelf, K: Sink>(
+pub fn run<R: Threads + Wait + Sync + AllocGlobal + Abort, H: Shelf, K: Sink>(
     rt: &R,
     line: &str,
     shelf: &mut H,
@@ -104,11 +131,9 @@ pub fn run<R: Sync + AllocGlobal + Abort, H: Shelf, K: Sink>(
     gather(&qos_top(rt, rt.alloc(), &words, shelf, said, &OpenGate))
 }
 
-/// The report of a status, which is one digit.
-pub fn report_of(status: u8) -> [u8; 9] {
-    let mut line = *b"status 0\n";
-    line[7] = b'0'.saturating_add(status);
-    line
+/// A report has this text.
+pub fn says(rt: &impl Abort, said: &[u8], text: &str) {
+    same(rt, &str::from_utf8(said), &Ok(text), "the report");
 }
 
 /// Two values are the same.

@@ -1,5 +1,8 @@
+pub mod Classes
+pub mod Colours
 pub mod Fate
-pub mod Mbuf
 pub mod Losses
+pub mod Marks
 pub mod Receiver
 pub mod Halts
+pub mod Laws

@@ -1,7 +1,6 @@
 -- What a receiver still gives, and what it has given.
-use Rattle.std.specs.Prelude.{◌≡◌, ◌⊎◌, ℕ, ◌+◌, ◌≤◌, List, [], ◌∷◌, None, Some, IfSome, MatchOption}
+use Rattle.std.specs.Prelude.{◌≡◌, ◌⊎◌, ℕ, ◌+◌, ◌≤◌, List, [], ◌∷◌, ◌++◌, map, None, Some, IfSome, MatchOption}
 use Rattle.qos_io.specs.declared.source.Source.{Ghosts}
-use Rattle.qos_base.specs.Reason.{reason_number}
 use Rattle.qos_base.specs.Time.{origin_of}
 use Rattle.qos_pcap.specs.declared.capture.Capture.{Capture}
 use Rattle.qos_pcap.specs.declared.fault.PcapFault.TheVariants.{Read}
@@ -18,9 +17,17 @@ use Rattle.pkt_receive.specs.declared.losses.Losses.{Losses}
 use Rattle.pkt_receive.specs.declared.receive.Received.{Received}
 use Rattle.pkt_receive.specs.declared.receive.Received.TheVariants.{Admitted as Packet, Lost as Gone, Stopped as Nothing}
 use Rattle.pkt_receive.specs.declared.receive.Receiver.{Receiver}
-use Rattle.pkt_receive.specs.Fate.{fate_of, packet_if, IsPlaced}
-use Rattle.pkt_receive.specs.Losses.{counted, no_losses}
-use Rattle.pkt_receive.specs.Mbuf.{captured_in}
+use Rattle.pkt_receive.specs.declared.marker.Marker.{Marker}
+use Rattle.pkt_receive.specs.Classes.{IsLoss}
+use Rattle.pkt_receive.specs.Colours.{Agrees, Colours}
+use Rattle.pkt_receive.specs.Fate.{fate_of, packet_if}
+use Rattle.pkt_receive.specs.Losses.{counted, lost_total, no_losses}
+use Rattle.pkt_receive.specs.Marks.{asked_by}
+use Rattle.meter_table.specs.declared.mark.Mark.{Mark}
+use Rattle.meter_table.specs.Asked.{request_in}
+use Rattle.pkt_slots.specs.declared.limits.TheConstants.{MAX_CAPTURED}
+use Rattle.pkt_slots.specs.Mbuf.{captured_in}
+use Rattle.pkt_slots.specs.Placed.{IsPlaced}
 
 -- a failed call stopped the reading
 abbrev pub IsReadFault : Stop → Type 0
@@ -28,17 +35,28 @@ IsReadFault NotOpened = Unit {0}
 IsReadFault (Fault Read) = Unit {0}
 IsReadFault _ = ⊥
 
--- What was received is this record, which has that index in an input: its packet in a slot with its body, or the reason for
--- which it is lost.
-abbrev pub IsReceived : Plan → ℕ → ℕ → Record → Received → Type 0
-IsReceived p input index r (Packet m) = (packet_if input index r (fate_of p input r) ≡ m.pkt ∷ []) × (captured_in m ≡ r.body)
-IsReceived p input index r (Gone reason) = fate_of p input r ≡ Lost reason
-IsReceived p input index r Nothing = ⊥
+-- What was received is this record, which has that index in an input, where the meters' marks have these colours: its packet in a
+-- slot with its body, or the reason for which it is lost.
+abbrev pub IsRecord : Plan → Colours → ℕ → ℕ → Record → Received → Type 0
+IsRecord p colours input index r (Packet m) = (packet_if input index r (fate_of p colours input index r) ≡ m.pkt ∷ []) × (captured_in m ≡ r.body)
+IsRecord p colours input index r (Gone reason) = fate_of p colours input index r ≡ Lost reason
+IsRecord p colours input index r Nothing = ⊥
+
+-- what was received is this record, and these marks were made for it: one where it reaches a meter
+pub record IsReceived (p : Plan) (origin input index : ℕ) (r : Record) (made : List Mark) (received : Received) : Type 0 where
+  pub asked : map request_in made ≡ asked_by p origin input index r
+  pub record_is : (colours : Colours) → Agrees colours made → IsRecord p colours input index r received
+
+-- the same, where a marker was `before` and is `after`
+pub record IsSorted (p : Plan) (before after : Marker) (input index : ℕ) (r : Record) (received : Received) : Type 0 where
+  pub made : List Mark
+  pub marks : after.marks.items ≡ before.marks.items ++ made
+  pub is : IsReceived p before.origin input index r made received
 
 -- a packet that was received has a place in the profile, and a record that was lost has one of the reasons of receive
 abbrev pub HasPlace : Plan → Received → Type 0
 HasPlace p (Packet m) = IsPlaced p m.pkt
-HasPlace p (Gone reason) = reason_number reason ≤ 4
+HasPlace p (Gone reason) = IsLoss reason
 HasPlace p Nothing = Unit {0}
 
 module _ {S : Type 0} (G : Ghosts S) where
@@ -48,12 +66,12 @@ module _ {S : Type 0} (G : Ghosts S) where
     pub given_is : given c ≡ read + 1
     pub limit_is : limit_of c ≡ MAX_RECORDS
     pub place : head.index ≡ read
-    pub cap_limit : head.cap ≤ 262144
+    pub cap_limit : head.cap ≤ MAX_CAPTURED
     pub captured : head.cap ≤ head.wire
 
   -- each record that a receiver has counted as lost was read
   abbrev pub IsCounted : Receiver S G → Type 0
-  IsCounted rx = rx.losses.unparsed + rx.losses.unmatched + rx.losses.oversize + rx.losses.too_long ≤ rx.read
+  IsCounted rx = lost_total rx.losses ≤ rx.read
 
   -- a receiver either has the head of its next record or has stopped
   pub record IsReading (rx : Receiver S G) : Type 0 where
@@ -81,11 +99,11 @@ module _ {S : Type 0} (G : Ghosts S) where
     pub opened : after.stopped ≡ NotOpened → (before.stopped ≡ NotOpened) × (after.read ≡ before.read)
     pub still : before.head ≡ None → after ≡ before
 
-  -- what a turn that answered this has made of a receiver that still gives these records and stops so
-  abbrev pub Gives : Plan → Receiver S G → Received → ℕ → List Record → Stop → Type 0
-  Gives p after Nothing index records stop = ToCome after records stop
-  Gives p after received index records stop =
-      (r : Record) × (rest : List Record) × (records ≡ r ∷ rest) × IsReceived p after.input index r received × ToCome after rest stop
+  -- what a turn that answered this has made of a receiver that still gives these records and stops so, and of its marker
+  abbrev pub Gives : Plan → Marker → Marker → Receiver S G → Received → ℕ → List Record → Stop → Type 0
+  Gives p before after rx Nothing index records stop = (after.marks.items ≡ before.marks.items) × ToCome rx records stop
+  Gives p before after rx received index records stop =
+      (r : Record) × (rest : List Record) × (records ≡ r ∷ rest) × IsSorted p before after rx.input index r received × ToCome rx rest stop
 
 -- a turn that answered this has counted the record, if it received one
 abbrev pub Counted : {S : Type 0} {G : Ghosts S} → Receiver S G → Receiver S G → Received → Type 0

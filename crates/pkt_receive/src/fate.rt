@@ -1,60 +1,89 @@
 //! What becomes of a record when it is received.
-ghost use Rattle.std.specs.Prelude.{◌≡◌, ◌<◌, ◌≤◌, ℕ, List, length};
+ghost use Rattle.std.specs.Prelude.{◌≡◌, ◌<◌, ◌≤◌, ◌++◌, ◌^◌, ℕ, List, IfOk, length, map};
+ghost use Rattle.color_meter.specs.Setting.{setting_of};
+ghost use Rattle.meter_table.specs.declared.mark.Mark.{Mark};
+ghost use Rattle.meter_table.specs.Seats.{settings_of};
 ghost use Rattle.qos_base.specs.declared.reason.Reason.{Reason};
-ghost use Rattle.qos_base.specs.Reason.{reason_number};
 ghost use Rattle.qos_pcap.specs.Heads.{recorded};
-ghost use Rattle.pkt_receive.specs.Fate.{fate_of, packet_of, mtu_at, IsPlaced};
+ghost use Rattle.pkt_slots.specs.Placed.{IsPlaced};
+ghost use Rattle.pkt_receive.specs.Classes.{IsLoss};
+ghost use Rattle.pkt_receive.specs.Fate.{fate_of, packet_of, policed};
+ghost use Rattle.pkt_receive.specs.Marks.{IsFateOf, StaysMarker};
 ghost use Rattle.pkt_receive.specs.declared.fate.Fate.TheVariants.{Admitted, Lost};
 
-use port_classify::{Place, look, place};
+use crate::classify::classify;
+use crate::marker::Marker;
+use port_classify::Place;
 use profile_plan::Profile;
-use qos_base::{Pkt, Reason};
+use qos_base::{Colour, NoMemory, Pkt, Reason};
 use qos_pcap::Head;
+use std::sync::Wait;
 
 /// What becomes of a record when it is received.
 #[derive(Clone, Copy, Debug, PartialEq, Eq)]
 pub enum Fate {
-    /// Its packet arrives at a port, at this place.
-    Admitted(Place),
+    /// Its packet arrives at a port, at this place and with this colour.
+    Admitted(Place, Colour),
     /// It is lost, for the first reason that applies.
     Lost(Reason),
 }
 
 impl Fate {
-    /// What becomes of the record of an input with this head and body, where a slot holds the body: unparsed where it is no
-    /// frame, unmatched where no rule matches it, oversize where it is longer on the line than its port's longest frame,
-    /// else admitted.
-    pub(crate) fn of(p: &Profile, input: u32, head: &Head, body: &[u8]) -> Fate
-        requires { head.now.cap ≤ p.now.pool.slot_bytes }
-        ensures value { result ≡ fate_of p.now input (recorded head.now body.now) }
-        ensures reason { (reason : Reason) → result ≡ Lost reason → reason_number reason ≤ 4 }
-        ensures place { (place : Place) → result ≡ Admitted place
-            → (index : ℕ) → IsPlaced p.now (packet_of input index (recorded head.now body.now) place) }
+    /// What becomes of the record of an input with this head and body, where a slot holds the body: lost where it comes to
+    /// no place; policed where it has a meter that gives it a colour which the profile drops; else admitted.
+    ///
+    /// `NoMemory`: a mark was refused memory.
+    pub(crate) fn of<R: Wait>(
+        rt: &R,
+        p: &Profile,
+        input: u32,
+        head: &Head,
+        body: &[u8],
+        marker: &mut Marker<'_>,
+    ) -> Result<Fate, NoMemory>
+        requires slot { head.now.cap ≤ p.now.pool.slot_bytes }
+        requires settings { settings_of marker.old.table.now ≡ map setting_of p.now.meters }
+        requires few { length marker.old.marks.items < 2 ^ 56 }
+        ensures value { IfOk result (λ fate. (made : List Mark) × (marker.new.marks.items ≡ marker.old.marks.items ++ made)
+            × IsFateOf p.now marker.old.origin input head.now.index (recorded head.now body.now) made fate) }
+        ensures reason { IfOk result (λ fate. (reason : Reason) → fate ≡ Lost reason → IsLoss reason) }
+        ensures place { IfOk result (λ fate. (place : Place) (colour : Colour) → fate ≡ Admitted place colour
+            → (index : ℕ) → IsPlaced p.now (packet_of input index (recorded head.now body.now) place colour)) }
+        ensures stays { StaysMarker marker.old marker.new }
     {
-        let Ok(frame) = look(body) else {
-            return Fate::Lost(Reason::Unparsed);
+        let class = match classify(p, input, head, body) {
+            Ok(class) => class,
+            Err(reason) => return Ok(Fate::Lost(reason)),
         };
-        let Some(place) = place(p, input, &frame) else {
-            return Fate::Lost(Reason::Unmatched);
+        let Some(meter) = class.place.meter else {
+            return Ok(Fate::Admitted(class.place, class.place.pre));
         };
-        if head.wire > mtu_at(p, place.port) {
-            return Fate::Lost(Reason::Oversize);
-        }
-        Fate::Admitted(place)
+        let colour = marker.mark(rt, meter, input, head, &class)?;
+        Ok(policed(p, meter, colour, class.place))
     }
 }
 
-// The longest frame of the port of a number, in bytes.
-fn mtu_at(p: &Profile, port: u32) -> u32
-    requires { port < length p.now.ports }
-    ensures { result ≡ mtu_at p.now port }
+// At its place a packet of this colour is policed where the profile drops that colour of its meter, else it is admitted.
+fn policed(p: &Profile, meter: u32, colour: Colour, place: Place) -> Fate
+    requires meter { meter < length p.now.meters }
+    ensures { result ≡ policed p.now meter colour place }
 {
-    p.port(port as usize).mtu
+    let [green, yellow, red] = p.meters.as_slice()[meter as usize].drops;
+    let drops = match colour {
+        Colour::Green => green,
+        Colour::Yellow => yellow,
+        Colour::Red => red,
+    };
+    if drops {
+        Fate::Lost(Reason::Policed)
+    } else {
+        Fate::Admitted(place, colour)
+    }
 }
 
-/// The packet of the record of an input with this head, at its place.
-pub(crate) fn packet(input: u32, head: &Head, place: Place) -> Pkt
-    ensures { (body : List ℕ) → result ≡ packet_of input head.now.index (recorded head.now body) place }
+/// The packet of the record of an input with this head, at its place and with its colour.
+pub(crate) fn packet(input: u32, head: &Head, place: Place, colour: Colour) -> Pkt
+    ensures { (body : List ℕ) → result ≡ packet_of input head.now.index (recorded head.now body) place colour }
 {
     Pkt {
         input,
@@ -66,6 +95,6 @@ pub(crate) fn packet(input: u32, head: &Head, place: Place) -> Pkt
         subport: place.subport,
         pipe: place.pipe,
         queue: place.queue,
-        colour: place.pre,
+        colour,
     }
 }

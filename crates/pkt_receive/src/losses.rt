@@ -14,12 +14,14 @@ pub struct Losses {
     pub oversize: u64,
     /// More of them was captured than a slot holds.
     pub too_long: u64,
+    /// A meter gave them a colour that the profile drops.
+    pub policed: u64,
 }
 
 impl Losses {
-    ghost use Rattle.std.specs.Prelude.{◌≡◌, ◌<◌, ◌+◌, ◌^◌};
+    ghost use Rattle.std.specs.Prelude.{◌≡◌, ◌<◌, ◌^◌};
     ghost use Rattle.pkt_receive.specs.declared.fate.Fate.TheVariants.{Lost};
-    ghost use Rattle.pkt_receive.specs.Losses.{counted, no_losses};
+    ghost use Rattle.pkt_receive.specs.Losses.{counted, lost_total, no_losses};
 
     // None.
     pub(crate) fn none() -> Losses
@@ -30,12 +32,13 @@ impl Losses {
             unmatched: 0,
             oversize: 0,
             too_long: 0,
+            policed: 0,
         }
     }
 
     // Counts a record that is lost.
     pub(crate) fn count(&mut self, reason: Reason)
-        requires { self.old.unparsed + self.old.unmatched + self.old.oversize + self.old.too_long < 2 ^ 33 }
+        requires few { lost_total self.old < 2 ^ 33 }
         ensures { self.new ≡ counted self.old (Lost reason) }
     {
         match reason {
@@ -43,6 +46,7 @@ impl Losses {
             Reason::Unmatched => self.unmatched += 1,
             Reason::Oversize => self.oversize += 1,
             Reason::TooLong => self.too_long += 1,
+            Reason::Policed => self.policed += 1,
             _ => {}
         }
     }

@@ -1,5 +1,5 @@
 //! Receive: one record after another, each into a slot of its own or lost for a reason.
-ghost use Rattle.std.specs.Prelude.{◌≡◌, ◌≢◌, ◌≤◌, ◌⊎◌, ◌∷◌, [], ℕ, List, Option, Some, None, OnOk, IfOk, IfErr, IfSome, IfNone, IsErrOf};
+ghost use Rattle.std.specs.Prelude.{◌≡◌, ◌≢◌, ◌+◌, ◌≤◌, ◌⊎◌, ◌++◌, ◌∷◌, [], ℕ, List, Option, Some, None, OnOk, IfOk, IfErr, IfSome, IfNone, IsErrOf};
 ghost use Rattle.std.specs.Prelude.{length, take};
 ghost use Rattle.std.specs.Option.{option_map};
 ghost use Rattle.qos_io.specs.Fault.{Counts};
@@ -9,7 +9,10 @@ ghost use Rattle.qos_pcap.specs.Given.{StillGives, NextStamp, HasGiven, HasPasse
 ghost use Rattle.pkt_receive.specs.declared.receive.Halt.{Halt};
 ghost use Rattle.pkt_receive.specs.Halts.{IfFault};
 ghost use Rattle.pkt_receive.specs.Losses.{no_losses};
-ghost use Rattle.pkt_receive.specs.Receiver.{IsReadFault, IsReceived, HasPlace};
+ghost use Rattle.meter_table.specs.declared.mark.Mark.{Mark};
+ghost use Rattle.pkt_receive.specs.Marks.{IsMarking, StaysMarker};
+ghost use Rattle.pkt_receive.specs.Receiver.{IsReadFault, IsReceived, IsSorted, HasPlace};
+ghost use Rattle.pkt_slots.specs.declared.limits.TheConstants.{MAX_CAPTURED};
 ghost use Rattle.qos_io.specs.Bytes.{bytes_in};
 ghost use Rattle.qos_io.specs.Shelves.{ChangesOnly};
 ghost use Rattle.qos_pcap.specs.Reads.{Reads};
@@ -18,12 +21,13 @@ ghost use Rattle.pkt_receive.specs.Receiver.{IsReading, IsFine, ToCome, IsFresh,
 use crate::fate::{Fate, packet};
 use crate::limits::MAX_RECORDS;
 use crate::losses::Losses;
-use crate::mbuf::Mbuf;
-use crate::slots::Slots;
+use crate::marker::Marker;
+use pkt_slots::{Mbuf, Slots};
 use profile_plan::Profile;
 use qos_base::{NoMemory, Reason};
 use qos_io::{PutFault, Shelf, Source};
 use qos_pcap::{Capture, Head, PcapFault, Stop, open_capture};
+use std::sync::Wait;
 
 /// What was received.
 #[derive(Drop)]
@@ -105,52 +109,69 @@ fn next_of<S: Source>(capture: &mut Capture<S>) -> (Option<Head>, Stop)
 }
 
 // A record whose body is at the front of a slot: its packet in that slot, or the reason for which it is lost.
-fn sort(p: &Profile, input: u32, head: &Head, bytes: Vec<u8>, slots: &mut Slots) -> Received
+fn sort<R: Wait>(
+    rt: &R,
+    p: &Profile,
+    input: u32,
+    head: &Head,
+    bytes: Vec<u8>,
+    slots: &mut Slots,
+    marker: &mut Marker<'_>,
+) -> Result<Received, NoMemory>
     requires fits { head.now.cap ≤ length bytes.items }
     requires slot { head.now.cap ≤ p.now.pool.slot_bytes }
     requires captured { head.now.cap ≤ head.now.wire }
-    requires limit { head.now.cap ≤ 262144 }
-    ensures received { IsReceived p.now input head.now.index (recorded head.now (take head.now.cap bytes.items)) result }
-    ensures place { HasPlace p.now result }
-    ensures stays { slots.new.slot_bytes ≡ slots.old.slot_bytes }
+    requires limit { head.now.cap ≤ MAX_CAPTURED }
+    requires marking { IsMarking p.now MAX_RECORDS marker.old }
+    ensures received { IfOk result (λ received. (made : List Mark) × (marker.new.marks.items ≡ marker.old.marks.items ++ made)
+        × IsReceived p.now marker.old.origin input head.now.index (recorded head.now (take head.now.cap bytes.items)) made received) }
+    ensures something { IfOk result (λ received. received ≢ Received.Stopped) }
+    ensures place { IfOk result (HasPlace p.now) }
+    ensures stays { StaysMarker marker.old marker.new }
+    ensures slots { slots.new.slot_bytes ≡ slots.old.slot_bytes }
 {
-    match Fate::of(p, input, head, &bytes[..head.cap as usize]) {
+    match Fate::of(rt, p, input, head, &bytes[..head.cap as usize], marker)? {
         Fate::Lost(reason) => {
             slots.give_bytes(bytes);
-            Received::Lost(reason)
+            Ok(Received::Lost(reason))
         }
-        Fate::Admitted(place) => Received::Admitted(Mbuf {
+        Fate::Admitted(place, colour) => Ok(Received::Admitted(Mbuf {
             bytes,
-            pkt: packet(input, head, place),
-        }),
+            pkt: packet(input, head, place, colour),
+        })),
     }
 }
 
 // Receives the record of this head, which is the last that the capture gave.
-fn receive<S: Source>(
+fn receive<R: Wait, S: Source>(
+    rt: &R,
     p: &Profile,
     input: u32,
     capture: &mut Capture<S>,
     head: &Head,
     slots: &mut Slots,
+    marker: &mut Marker<'_>,
 ) -> Result<Received, Halt>
     requires next { untaken capture.old ≡ Some head.now }
     requires captured { head.now.cap ≤ head.now.wire }
-    requires limit { head.now.cap ≤ 262144 }
+    requires limit { head.now.cap ≤ MAX_CAPTURED }
     requires slots { slots.old.slot_bytes ≡ p.now.pool.slot_bytes }
+    requires marking { IsMarking p.now MAX_RECORDS marker.old }
     ensures passed { OnOk result (HasPassedBody capture.old capture.new) }
     ensures received { IfOk result (λ received. (records : List Record) (stop : Stop) → StillGives S.remaining capture.old records stop
-        → (r : Record) × (rest : List Record) × (records ≡ r ∷ rest) × IsReceived p.now input head.now.index r received
-        × StillGives S.remaining capture.new rest stop) }
+        → (r : Record) × (rest : List Record) × (records ≡ r ∷ rest)
+        × IsSorted p.now marker.old marker.new input head.now.index r received × StillGives S.remaining capture.new rest stop) }
+    ensures marks { IfOk result (λ _. length marker.new.marks.items ≤ length marker.old.marks.items + 1) }
     ensures something { IfOk result (λ received. received ≢ Received.Stopped) }
     ensures place { IfOk result (HasPlace p.now) }
-    ensures halted { IfErr result (IfFault (λ fault. (records : List Record) (stop : Stop)
-        → StillGives S.remaining capture.old records stop
-        → IsReadFault (Stop.Fault fault) ⊎ ((records ≡ []) × (Stop.Fault fault ≡ stop)))) }
+    ensures halted { IfErr result (IfFault (λ fault. (marker.new.marks.items ≡ marker.old.marks.items)
+        × ((records : List Record) (stop : Stop) → StillGives S.remaining capture.old records stop
+        → IsReadFault (Stop.Fault fault) ⊎ ((records ≡ []) × (Stop.Fault fault ≡ stop))))) }
     ensures limit { limit_of capture.new ≡ limit_of capture.old }
     ensures given { OnOk result (given capture.new ≡ given capture.old) }
     ensures faults { Counts S.faults S.IsSure (source_of capture.old) (source_of capture.new) (result ≡ Err (Halt.Fault PcapFault.Read)) }
-    ensures stays { slots.new.slot_bytes ≡ slots.old.slot_bytes }
+    ensures stays { StaysMarker marker.old marker.new }
+    ensures slots { slots.new.slot_bytes ≡ slots.old.slot_bytes }
 {
     if head.cap > p.pool.slot_bytes {
         return match capture.skip_body() {
@@ -162,28 +183,37 @@ fn receive<S: Source>(
         return Err(Halt::Memory);
     };
     match body_into_front(capture, &mut bytes, head.cap as usize) {
-        Ok(()) => Ok(sort(p, input, head, bytes, slots)),
+        Ok(()) => sort(rt, p, input, head, bytes, slots, marker).map_err(|_| Halt::Memory),
         Err(fault) => Err(Halt::Fault(fault)),
     }
 }
 
 impl<S: Source> Receiver<S> {
-    ghost use Rattle.std.specs.Prelude.{◌<◌, ◌+◌, ◌^◌};
+    ghost use Rattle.std.specs.Prelude.{◌<◌, ◌^◌};
     ghost use Rattle.pkt_receive.specs.Receiver.{Gives, Counted, IsCounted, with_received};
 
     /// Receives the next record. A packet that is admitted comes in a slot of its own; a record that is not keeps
-    /// none and is passed over.
+    /// none and is passed over. One that reaches a meter is marked.
     ///
-    /// `NoMemory`: a slot was refused memory.
-    pub fn turn(&mut self, p: &Profile, slots: &mut Slots) -> Result<Received, NoMemory>
+    /// `NoMemory`: a slot or a mark was refused memory. The call may wait for another caller of the meters.
+    pub fn turn<R: Wait>(
+        &mut self,
+        rt: &R,
+        p: &Profile,
+        slots: &mut Slots,
+        marker: &mut Marker<'_>,
+    ) -> Result<Received, NoMemory>
         requires reading { IsReading S.Source self.old }
         requires slots { slots.old.slot_bytes ≡ p.now.pool.slot_bytes }
+        requires marking { IsMarking p.now self.old.read marker.old }
         ensures reading { OnOk result (IsReading S.Source self.new) }
+        ensures marking { OnOk result (IsMarking p.now self.new.read marker.new) }
         ensures received { IfOk result (λ received. (records : List Record) (stop : Stop) → ToCome S.Source self.old records stop
-            → Gives S.Source p.now self.new received self.old.read records stop) }
+            → Gives S.Source p.now marker.old marker.new self.new received self.old.read records stop) }
         ensures counted { IfOk result (Counted self.old self.new) }
         ensures place { IfOk result (HasPlace p.now) }
         ensures stays { StaysReceiver S.Source self.old self.new }
+        ensures marker { StaysMarker marker.old marker.new }
         ensures slots { slots.new.slot_bytes ≡ slots.old.slot_bytes }
     {
         let Some(head) = self.head else {
@@ -192,7 +222,7 @@ impl<S: Source> Receiver<S> {
         let Some(capture) = &mut self.capture else {
             return Ok(Received::Stopped);
         };
-        match receive(p, self.input, capture, &head, slots) {
+        match receive(rt, p, self.input, capture, &head, slots, marker) {
             Err(Halt::Memory) => Err(NoMemory),
             Err(Halt::Fault(fault)) => {
                 self.head = None;

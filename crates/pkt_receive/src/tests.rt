@@ -1,110 +1,211 @@
-ghost use Rattle.std.specs.Prelude.{◌≡◌, ◌<◌};
+ghost use Rattle.std.specs.Prelude.{◌≡◌, ◌<◌, map};
+ghost use Rattle.color_meter.specs.Setting.{setting_of};
+ghost use Rattle.meter_table.specs.Seats.{IsFresh, settings_of};
+ghost use Rattle.pkt_receive.specs.Marks.{IsMarking};
 ghost use Rattle.pkt_receive.specs.Receiver.{IsReading};
 
 mod plan;
 
 use super::*;
+use meter_table::{Mark, MeterSeat, MeterTable};
+use pkt_slots::Slots;
 use plan::two_ports;
 use profile_plan::Profile;
-use qos_base::{Colour, Departure, Pkt, Reason};
+use qos_base::{Colour, Pkt, Reason};
 use qos_io::{MemShelf, Source};
 use qos_pcap::{PcapFault, Stop};
 use std::alloc::AllocGlobal;
 use std::fmt::Debug;
 use std::process::Abort;
+use std::sync::Wait;
 
 fn same<T: PartialEq + Debug>(rt: &impl Abort, value: &T, wanted: &T, note: &str) {
     assert_eq!(rt; value, wanted, "{note}");
 }
 
-// A record: its two lengths, the type of its frame and the byte behind it, and what becomes of it in input 0 and in
-// input 1: the port, or the reason for which it is lost, or nothing where it is not whole.
+// The port and the colour of a packet, or the reason for which its record is lost, or nothing where it is not whole.
+type Wanted = Option<Result<(u32, Colour), Reason>>;
+
+// A record: its two lengths, its nanoseconds after the first, what stands behind the addresses of its frame, and what
+// becomes of it in input 0, in input 1 and in input 2, whose IPv4 has a meter.
 struct Row {
     note: &'static str,
     cap: u32,
     wire: u32,
-    kind: [u8; 3],
-    wanted: [Option<Result<u32, Reason>>; 2],
+    after: u16,
+    kind: [u8; 7],
+    wanted: [Wanted; 3],
 }
 
-const IPV4: [u8; 3] = [0x08, 0x00, 0x45];
+const IPV4: [u8; 7] = [0x08, 0x00, 0x45, 0, 0, 0, 0];
 
-const VERSION_5: [u8; 3] = [0x08, 0x00, 0x55];
+const TAGGED: [u8; 7] = [0x81, 0x00, 0x00, 0x05, 0x08, 0x00, 0x45];
 
-const ARP: [u8; 3] = [0x08, 0x06, 0x00];
+const VERSION_5: [u8; 7] = [0x08, 0x00, 0x55, 0, 0, 0, 0];
 
-// The ports send frames of 1,522 and of 1,523 bytes, and a slot holds 2,048.
-const ROWS: [Row; 10] = [
+const ARP: [u8; 7] = [0x08, 0x06, 0, 0, 0, 0, 0];
+
+const TO_0: Wanted = Some(Ok((0, Colour::Green)));
+
+const TO_1: Wanted = Some(Ok((1, Colour::Green)));
+
+const YELLOW: Wanted = Some(Ok((1, Colour::Yellow)));
+
+const UNPARSED: Wanted = Some(Err(Reason::Unparsed));
+
+const UNMATCHED: Wanted = Some(Err(Reason::Unmatched));
+
+const OVERSIZE: Wanted = Some(Err(Reason::Oversize));
+
+const TOO_LONG: Wanted = Some(Err(Reason::TooLong));
+
+const POLICED: Wanted = Some(Err(Reason::Policed));
+
+// The ports send frames of 1,522 and of 1,523 bytes, and a slot holds 2,048. The meter holds 46 bytes for green packets
+// and 46 for yellow ones and earns none, and the profile drops red ones.
+const ROWS: [Row; 12] = [
     Row {
         note: "a frame",
         cap: 60,
         wire: 60,
+        after: 0,
         kind: IPV4,
-        wanted: [Some(Ok(0)), Some(Ok(1))],
+        wanted: [TO_0, TO_1, TO_1],
     },
     Row {
         note: "one byte more than a slot",
         cap: 2049,
         wire: 2049,
+        after: 100,
         kind: IPV4,
-        wanted: [Some(Err(Reason::TooLong)); 2],
+        wanted: [TOO_LONG; 3],
     },
     Row {
         note: "a whole slot",
         cap: 2048,
         wire: 2048,
+        after: 200,
         kind: IPV4,
-        wanted: [Some(Err(Reason::Oversize)); 2],
+        wanted: [OVERSIZE; 3],
     },
     // The slot still holds the frame before it.
     Row {
         note: "10 bytes",
         cap: 10,
         wire: 60,
+        after: 300,
         kind: IPV4,
-        wanted: [Some(Err(Reason::Unparsed)); 2],
+        wanted: [UNPARSED; 3],
     },
     Row {
         note: "ARP",
         cap: 60,
         wire: 60,
+        after: 400,
         kind: ARP,
-        wanted: [Some(Err(Reason::Unmatched)); 2],
+        wanted: [UNMATCHED; 3],
     },
     Row {
         note: "ARP, longer than any port sends",
         cap: 60,
         wire: 1524,
+        after: 500,
         kind: ARP,
-        wanted: [Some(Err(Reason::Unmatched)); 2],
+        wanted: [UNMATCHED; 3],
     },
     Row {
         note: "1,523 bytes on the line",
         cap: 60,
         wire: 1523,
+        after: 600,
         kind: IPV4,
-        wanted: [Some(Err(Reason::Oversize)), Some(Ok(1))],
+        wanted: [OVERSIZE, TO_1, POLICED],
     },
     Row {
         note: "1,522 bytes on the line",
         cap: 60,
         wire: 1522,
+        after: 700,
         kind: IPV4,
-        wanted: [Some(Ok(0)), Some(Ok(1))],
+        wanted: [TO_0, TO_1, POLICED],
     },
     Row {
         note: "one byte more than a slot, and no frame",
         cap: 2049,
         wire: 2049,
+        after: 800,
         kind: VERSION_5,
-        wanted: [Some(Err(Reason::TooLong)); 2],
+        wanted: [TOO_LONG; 3],
+    },
+    Row {
+        note: "46 bytes behind a tag",
+        cap: 60,
+        wire: 64,
+        after: 900,
+        kind: TAGGED,
+        wanted: [TO_0, TO_1, YELLOW],
+    },
+    Row {
+        note: "a frame for which the meter holds nothing",
+        cap: 60,
+        wire: 60,
+        after: 1000,
+        kind: IPV4,
+        wanted: [TO_0, TO_1, POLICED],
     },
     Row {
         note: "a body of which a byte is missing",
         cap: 60,
         wire: 60,
+        after: 1100,
         kind: IPV4,
-        wanted: [None; 2],
+        wanted: [None; 3],
+    },
+];
+
+const FIRST_MARK: Mark = Mark {
+    meter: 0,
+    turn: 0,
+    input: 2,
+    index: 0,
+    at: 0,
+    len: 46,
+    pre: Colour::Green,
+    colour: Colour::Green,
+};
+
+// The marks of input 2. Lengths are without the link header's 14 bytes and the tag's 4.
+const MARKS: [Mark; 5] = [
+    FIRST_MARK,
+    Mark {
+        turn: 1,
+        index: 6,
+        at: 600,
+        len: 1509,
+        colour: Colour::Red,
+        ..FIRST_MARK
+    },
+    Mark {
+        turn: 2,
+        index: 7,
+        at: 700,
+        len: 1508,
+        colour: Colour::Red,
+        ..FIRST_MARK
+    },
+    Mark {
+        turn: 3,
+        index: 9,
+        at: 900,
+        colour: Colour::Yellow,
+        ..FIRST_MARK
+    },
+    Mark {
+        turn: 4,
+        index: 10,
+        at: 1000,
+        colour: Colour::Red,
+        ..FIRST_MARK
     },
 ];
 
@@ -113,16 +214,13 @@ const HEADER: [u8; 24] = [
     0x4d, 0x3c, 0xb2, 0xa1, 2, 0, 4, 0, 0, 0, 0, 0, 0, 0, 0, 0, 0, 0, 4, 0, 1, 0, 0, 0,
 ];
 
-// One second and 500 nanoseconds.
-const STAMP: [u32; 2] = [1, 500];
-
 fn put(rt: &impl Abort, bytes: &mut Vec<u8>, more: &[u8]) {
     bytes.extend_from_slice(more).expect(rt, "memory");
 }
 
-// What is captured of a row: two addresses of twos, the row's three bytes, and zeros.
+// What is captured of a row: two addresses of twos, what stands behind them, and zeros.
 fn body<R: Abort + AllocGlobal>(rt: &R, row: &Row) -> Vec<u8> {
-    let mut begins = [2; 15];
+    let mut begins = [2; 19];
     begins[12..].copy_from_slice(&row.kind);
     let mut bytes = vec![in rt.alloc(); 0; row.cap as usize].expect(rt, "memory");
     let n = begins.len().min(bytes.len());
@@ -130,8 +228,9 @@ fn body<R: Abort + AllocGlobal>(rt: &R, row: &Row) -> Vec<u8> {
     bytes
 }
 
+// The first record comes one second and 500 nanoseconds after 1970 began.
 fn put_row<R: Abort + AllocGlobal>(rt: &R, bytes: &mut Vec<u8>, row: &Row) {
-    for number in [STAMP[0], STAMP[1], row.cap, row.wire] {
+    for number in [1, 500 + u32::from(row.after), row.cap, row.wire] {
         put(rt, bytes, &number.to_le_bytes());
     }
     put(rt, bytes, &body(rt, row));
@@ -149,19 +248,19 @@ fn shelf<R: Abort + AllocGlobal>(rt: &R) -> MemShelf {
     shelf
 }
 
-// The packet of a row.
-fn packet(input: u32, index: u32, port: u32, row: &Row) -> Pkt {
+// The packet of a row, at a port with a colour.
+fn packet(input: u32, index: u32, port: u32, colour: Colour, row: &Row) -> Pkt {
     Pkt {
         input,
         index,
         wire: row.wire,
         cap: row.cap,
-        stamp: 1_000_000_500,
+        stamp: 1_000_000_500 + u64::from(row.after),
         port,
         subport: 0,
         pipe: 0,
         queue: 12,
-        colour: Colour::Green,
+        colour,
     }
 }
 
@@ -187,64 +286,98 @@ fn seen<R: Abort + AllocGlobal>(
 }
 
 fn wanted(input: u32, index: u32, row: &Row) -> Option<Result<Pkt, Reason>> {
-    let of_input = if input == 0 {
-        row.wanted[0]
-    } else {
-        row.wanted[1]
+    let of_input = match input {
+        0 => row.wanted[0],
+        1 => row.wanted[1],
+        _ => row.wanted[2],
     };
-    of_input.map(|port| port.map(|port| packet(input, index, port, row)))
+    of_input.map(|fate| fate.map(|(port, colour)| packet(input, index, port, colour, row)))
 }
 
-fn receive<R: Abort + AllocGlobal, S: Source>(
+fn receive<R: Abort + AllocGlobal + Wait, S: Source>(
     rt: &R,
     p: &Profile,
     rx: &mut Receiver<S>,
     slots: &mut Slots,
+    marker: &mut Marker<'_>,
     index: u32,
 )
-    requires index { index < 10 }
+    requires index { index < 12 }
     requires reading { IsReading S.Source rx.old }
     requires slots { slots.old.slot_bytes ≡ p.now.pool.slot_bytes }
+    requires marking { IsMarking p.now rx.old.read marker.old }
     ensures reading { IsReading S.Source rx.new }
     ensures slots { slots.new.slot_bytes ≡ slots.old.slot_bytes }
+    ensures marking { IsMarking p.now rx.new.read marker.new }
 {
     let row = &ROWS[index as usize];
     let input = rx.input;
-    let received = rx.turn(p, slots).expect(rt, "memory");
+    let received = rx.turn(rt, p, slots, marker).expect(rt, "memory");
     let found = seen(rt, received, slots, row);
     same(rt, &found, &wanted(input, index, row), row.note);
 }
 
-fn receive_rows<R: Abort + AllocGlobal, S: Source>(rt: &R, p: &Profile, rx: &mut Receiver<S>)
+// The meters of a profile, and their only seat.
+fn meters<R: Abort + AllocGlobal + Wait>(rt: &R, p: &Profile) -> (MeterTable, MeterSeat)
+    ensures settings { settings_of result.0 ≡ map setting_of p.now.meters }
+    ensures fresh { IsFresh result.0 result.1 }
+{
+    let (table, mut seats) = MeterTable::new(rt, rt.alloc(), p, 1).expect(rt, "memory");
+    let seat = seats.pop().expect(rt, "a seat");
+    (table, seat)
+}
+
+fn receive_rows<R: Abort + AllocGlobal + Wait, S: Source>(
+    rt: &R,
+    p: &Profile,
+    rx: &mut Receiver<S>,
+    marks: &[Mark],
+)
     requires { IsReading S.Source rx.old }
 {
     let mut slots = Slots::new(rt.alloc(), p.pool.slot_bytes);
-    for index in 0..10u32 {
-        receive(rt, p, rx, &mut slots, index);
+    let (table, seat) = meters(rt, p);
+    let mut marker = Marker::new(rt.alloc(), &table, seat, rx.origin);
+    for index in 0..12u32 {
+        receive(rt, p, rx, &mut slots, &mut marker, index);
     }
+    same(rt, &marker.marks.as_slice(), &marks, "the marks");
 }
 
-// The last record begins behind the header, nine heads of 16 bytes and 6,456 bytes of bodies.
+// An input of the rows, of which so many are too long for their port and so many are policed. The last record begins
+// behind the header, eleven heads of 16 bytes and 6,576 bytes of bodies.
+fn receive_input<R: Abort + AllocGlobal + Wait>(
+    rt: &R,
+    p: &Profile,
+    input: u32,
+    oversize: u64,
+    policed: u64,
+    marks: &[Mark],
+) {
+    let mut rx = open_input(&mut shelf(rt), "rows", input).expect(rt, "memory");
+    receive_rows(rt, p, &mut rx, marks);
+    let losses = Losses {
+        unparsed: 1,
+        unmatched: 2,
+        oversize,
+        too_long: 2,
+        policed,
+    };
+    let stop = Stop::Fault(PcapFault::CutRecord(6776));
+    same(
+        rt,
+        &(rx.origin, rx.read, rx.losses, rx.stopped),
+        &(1_000_000_500, 11, losses, stop),
+        "an input",
+    );
+}
+
 #[test]
 fn each_record_has_its_fate(rt: HostRuntime) {
     let p = two_ports(&rt);
-    for (input, oversize) in [(0, 2), (1, 1)] {
-        let mut rx = open_input(&mut shelf(&rt), "rows", input).expect(&rt, "memory");
-        receive_rows(&rt, &p, &mut rx);
-        let losses = Losses {
-            unparsed: 1,
-            unmatched: 2,
-            oversize,
-            too_long: 2,
-        };
-        let stop = Stop::Fault(PcapFault::CutRecord(6624));
-        same(
-            &rt,
-            &(rx.origin, rx.read, rx.losses, rx.stopped),
-            &(1_000_000_500, 9, losses, stop),
-            "an input",
-        );
-    }
+    receive_input(&rt, &p, 0, 2, 0, &[]);
+    receive_input(&rt, &p, 1, 1, 0, &[]);
+    receive_input(&rt, &p, 2, 1, 3, &MARKS);
 }
 
 #[test]
@@ -256,32 +389,4 @@ fn an_absent_file_is_not_opened(rt: HostRuntime) {
         &(0, None, Stop::NotOpened),
         "an absent file",
     );
-}
-
-fn slot_of<R: Abort + AllocGlobal>(rt: &R, byte: u8) -> Mbuf {
-    Mbuf {
-        bytes: vec![in rt.alloc(); byte; 64].expect(rt, "memory"),
-        pkt: Pkt {
-            cap: 0,
-            ..packet(0, 0, 0, &ROWS[0])
-        },
-    }
-}
-
-// The last that was given back is taken first, and one more is made where none is free.
-#[test]
-fn slots_are_taken_again(rt: HostRuntime) {
-    let mut slots = Slots::new(rt.alloc(), 64);
-    let departure = Departure {
-        parcel: slot_of(&rt, 1),
-        time: 0,
-    };
-    let mut sent = vec![in rt.alloc(); departure].expect(&rt, "memory");
-    slots.give_all(&mut sent);
-    slots.give_if(Some(slot_of(&rt, 2)));
-    slots.give_if(None);
-    for byte in [2, 1, 0] {
-        let slot = slots.take().expect(&rt, "memory");
-        same(&rt, &slot.as_slice(), &[byte; 64].as_slice(), "a slot");
-    }
 }

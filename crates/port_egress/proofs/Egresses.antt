@@ -10,8 +10,8 @@ use Rattle.port_sched.specs.Port.{Port, left_of, after_arrival}
 use Rattle.port_sched.specs.PortDequeue.{dequeue_port}
 use Rattle.port_sched.specs.Start.{start_at}
 use Rattle.port_sched.specs.PortLaws.{AllWaiting, DequeueServes, ArrivalJoins}
-use Rattle.pkt_receive.specs.declared.mbuf.Mbuf.{Mbuf}
-use Rattle.pkt_receive.specs.Mbuf.{packet_in}
+use Rattle.pkt_slots.specs.declared.mbuf.Mbuf.{Mbuf}
+use Rattle.pkt_slots.specs.Mbuf.{packet_in}
 use Rattle.run_journal.specs.Pacer.{PacerState}
 use Rattle.run_journal.specs.PortRun.{RunState, schedule, new_run, HasDequeued}
 use Rattle.run_journal.specs.Schedule.{schedule_from}

@@ -15,7 +15,7 @@ use Rattle.run_journal.specs.Pacer.{after_aim, after_at}
 use Rattle.run_journal.specs.Paced.{Course, advance, after_arrival}
 use Rattle.run_journal.specs.PortRun.{RunState, after_entry_of, course_of, schedule, started}
 use Rattle.run_journal.specs.Schedule.{arrivals_of}
-use Rattle.pkt_receive.specs.declared.mbuf.Mbuf.{Mbuf}
+use Rattle.pkt_slots.specs.declared.mbuf.Mbuf.{Mbuf}
 use Rattle.port_egress.specs.declared.send.Sender.{Sender}
 use Rattle.port_egress.specs.declared.egress.Egress.{Egress}
 use Rattle.port_egress.specs.Egress.{Serves, IsOpen, IsDrained, HasHalted}

@@ -11,8 +11,8 @@ pub use Rattle.qos_io.specs.Bytes.{PutSome, held_after}
 pub use Rattle.qos_io.specs.declared.sink.PutFault.{PutFault}
 pub use Rattle.qos_io.specs.declared.sink.Sink.{Ghosts as Sinks}
 pub use Rattle.qos_pcap.specs.Written.{header_text, record_text}
-pub use Rattle.pkt_receive.specs.Mbuf.{IsBodyIn}
-pub use Rattle.pkt_receive.specs.declared.mbuf.Mbuf.{Mbuf}
+pub use Rattle.pkt_slots.specs.Mbuf.{IsBodyIn}
+pub use Rattle.pkt_slots.specs.declared.mbuf.Mbuf.{Mbuf}
 pub use Rattle.port_egress.specs.Output.{IsCut, IsWhole, Target, in_header, in_record}
 unfoldable pub use Rattle.port_egress.specs.Output.{output_text, send_text}
 pub use Rattle.port_egress.specs.Sender.{HasWritten, StaysSender, seen, target_by, target_of}

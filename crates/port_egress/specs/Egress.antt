@@ -2,7 +2,7 @@
 use Rattle.std.specs.Prelude.{◌≡◌, ◌≤◌, ◌^◌, ℕ, List, None}
 use Rattle.qos_base.specs.declared.packet.Pkt.{Pkt}
 use Rattle.qos_io.specs.declared.sink.Sink.{Ghosts}
-use Rattle.pkt_receive.specs.Mbuf.{IsBodyIn}
+use Rattle.pkt_slots.specs.Mbuf.{IsBodyIn}
 use Rattle.port_sched.specs.PortLaws.{AllWaiting}
 use Rattle.run_journal.specs.Laws.{Begins}
 use Rattle.run_journal.specs.Pace.{pace_of}

@@ -6,7 +6,7 @@ use Rattle.qos_base.specs.Time.{byte_time_of, moment_of}
 use Rattle.profile_plan.specs.declared.port.PortPlan.{PortPlan}
 use Rattle.profile_plan.specs.Profile.{Plan, KeepsLimits}
 use Rattle.port_sched.specs.Port.{has_place}
-use Rattle.pkt_receive.specs.Fate.{IsPlaced}
+use Rattle.pkt_slots.specs.Placed.{IsPlaced}
 use Rattle.run_journal.specs.declared.entry.Entry.{Entry}
 use Rattle.run_journal.specs.Pace.{pace_of}
 use Rattle.run_journal.specs.Paced.{Course, open_course, paced_course}

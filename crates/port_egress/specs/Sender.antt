@@ -5,8 +5,8 @@ use Rattle.qos_base.specs.declared.packet.Departure.{Departure}
 use Rattle.qos_io.specs.declared.sink.Sink.{Ghosts}
 use Rattle.qos_io.specs.declared.sink.PutFault.TheVariants.{Failed}
 use Rattle.port_sched.specs.Parcels.{seen_send}
-use Rattle.pkt_receive.specs.declared.mbuf.Mbuf.{Mbuf}
-use Rattle.pkt_receive.specs.Mbuf.{packet_in}
+use Rattle.pkt_slots.specs.declared.mbuf.Mbuf.{Mbuf}
+use Rattle.pkt_slots.specs.Mbuf.{packet_in}
 use Rattle.port_egress.specs.declared.send.Sender.{Sender}
 use Rattle.port_egress.specs.declared.stamps.Stamps.{Stamps}
 use Rattle.port_egress.specs.Output.{Target, IsWhole, IsCut}

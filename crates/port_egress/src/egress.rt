@@ -5,7 +5,7 @@ ghost use Rattle.run_journal.specs.PortRun.{schedule};
 
 use crate::send::Sender;
 use crate::stamps::Stamps;
-use pkt_receive::{Mbuf, Slots};
+use pkt_slots::{Mbuf, Slots};
 use port_sched::laws::{arrivals_join, dequeues_serve, starts_within};
 use profile_plan::Profile;
 use qos_base::{Departure, MAX_MOMENT, NoMemory, Pkt, byte_time};
@@ -47,7 +47,7 @@ impl<'p, K: Sink> Egress<'p, K> {
     ghost use Rattle.profile_plan.specs.declared.port.PortPlan.{PortPlan};
     ghost use Rattle.qos_base.specs.declared.packet.Pkt.{Pkt};
     ghost use Rattle.port_sched.specs.Port.{Port, has_place};
-    ghost use Rattle.pkt_receive.specs.Mbuf.{IsBodyIn};
+    ghost use Rattle.pkt_slots.specs.Mbuf.{IsBodyIn};
     ghost use Rattle.run_journal.specs.declared.entry.Entry.TheVariants.{Arrive, Dequeue};
     ghost use Rattle.run_journal.specs.declared.limits.TheConstants.{MAX_ARRIVALS};
     ghost use Rattle.run_journal.specs.Laws.{AreAccounted, Begins};

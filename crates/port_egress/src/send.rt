@@ -5,13 +5,13 @@ ghost use Rattle.qos_base.specs.declared.packet.Departure.{Departure};
 ghost use Rattle.qos_base.specs.declared.packet.Pkt.{Pkt};
 ghost use Rattle.qos_io.specs.Bytes.{held_after, PutSome};
 ghost use Rattle.qos_io.specs.Fault.{Counts};
-ghost use Rattle.pkt_receive.specs.declared.mbuf.Mbuf.{Mbuf};
-ghost use Rattle.pkt_receive.specs.Mbuf.{IsBodyIn, packet_in};
+ghost use Rattle.pkt_slots.specs.declared.mbuf.Mbuf.{Mbuf};
+ghost use Rattle.pkt_slots.specs.Mbuf.{IsBodyIn, packet_in};
 ghost use Rattle.port_egress.specs.Output.{send_text};
 ghost use Rattle.port_egress.specs.Sender.{HasWritten, StaysSender, seen, target_by, unbegun};
 
 use crate::stamps::Stamps;
-use pkt_receive::Mbuf;
+use pkt_slots::Mbuf;
 use qos_base::Departure;
 use qos_io::{PutFault, Sink};
 use qos_pcap::{put_header, put_record};

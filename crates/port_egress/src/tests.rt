@@ -4,7 +4,7 @@ ghost use Rattle.port_egress.specs.Egress.{IsReady};
 mod plan;
 
 use super::*;
-use pkt_receive::{Mbuf, Slots};
+use pkt_slots::{Mbuf, Slots};
 use plan::one_port;
 use profile_plan::Profile;
 use qos_base::{Colour, Pkt};

@@ -5,8 +5,7 @@
 #![tactic(auto)]
 
 use qos_io::OpenGate;
-use qos_main::report::report;
-use qos_main::{FileShelf, Status, StdoutSink, qos_top};
+use qos_main::{FileShelf, StdoutSink, put_memory, qos_top};
 use std::alloc::AllocError;
 use std::env;
 use std::io::ErrorKind;
@@ -25,7 +24,7 @@ fn arguments<R: Env + AllocGlobal>(rt: &R) -> Result<Vec<String>, AllocError> {
 fn main(rt: HostRuntime) -> ExitCode {
     let mut said = StdoutSink::new(&rt);
     let Ok(words) = arguments(&rt) else {
-        return ExitCode::from(report(Status::Memory, &mut said).number());
+        return ExitCode::from(put_memory(&mut said).number());
     };
     let mut shelf = FileShelf::new(&rt);
     let ended = qos_top(&rt, rt.alloc(), &words, &mut shelf, &mut said, &OpenGate);

@@ -1,6 +1,7 @@
 -- The account of an input, from its receiver's numbers and those of the ports.
-use Rattle.std.proofs.Common.{◌≡◌, ◌∙◌, ◌+◌, ◌-◌, ◌==◌, ◌<◌, ◌≤◌, inl, inr, nat_lt, ℕ, suc, false, if◌then◌else◌, List, [], ◌∷◌}
-use Rattle.std.proofs.Common.{◌++◌, length, map, get_or, take, Fits, w64, ◌^◌, sum, slice_get, slice_index_or, Option, Some, None}
+use Rattle.std.proofs.Common.{◌≡◌, ◌∙◌, ◌+◌, ◌-◌, ◌<◌, ◌≤◌, ◌^◌, inl, inr, nat_lt, ℕ, suc, false, if◌then◌else◌}
+use Rattle.std.proofs.Common.{List, [], ◌∷◌, ◌++◌, length, map, get_or, take, Fits, w64, sum, count_by, slice_get}
+use Rattle.std.proofs.Common.{slice_index_or, Option, Some, None, Result, Ok, Err}
 use Rattle.std.proofs.Common.{refl, sym, ap, arith, length-append}
 use Rattle.std.specs.List.{sum_by}
 use Rattle.std.specs.List.Sorted.{IsPermutation}
@@ -10,18 +11,23 @@ use Rattle.std.proofs.lemmas.List.{length-map}
 use Rattle.std.proofs.lemmas.List.Sums.{sum_by-cons, sum_by-le-sum_by, sum_by_more_le}
 use Rattle.std.proofs.lemmas.List.Sorted.{length_permutation}
 use Rattle.std.proofs.lemmas.Option.{slice_get_cases, slice_get_within}
+use Rattle.qos_base.specs.declared.packet.Colour.{Colour}
 use Rattle.qos_base.specs.declared.packet.Departure.{Departure}
 use Rattle.qos_base.specs.declared.packet.Pkt.{Pkt}
 use Rattle.qos_base.specs.declared.reason.Reason.{Reason}
-use Rattle.qos_base.specs.declared.reason.Reason.TheVariants.{Unparsed, Unmatched, Oversize, TooLong, NoSlot, Policed, TailFull}
+use Rattle.qos_base.specs.declared.reason.Reason.TheVariants.{Unparsed, Unmatched, Oversize, TooLong, NoSlot, Policed}
+use Rattle.qos_base.specs.declared.reason.Reason.TheVariants.{TailFull}
 use Rattle.qos_base.specs.Reason.{reason_number}
 use Rattle.qos_io.specs.declared.source.Source.{Ghosts as Sources}
 use Rattle.qos_pcap.specs.Format.{Record}
 use Rattle.profile_plan.specs.Profile.{Plan}
 use Rattle.pkt_receive.specs.declared.fate.Fate.{Fate}
+use Rattle.pkt_receive.specs.declared.classify.Classified.{Classified}
 use Rattle.pkt_receive.specs.declared.fate.Fate.TheVariants.{Admitted, Lost}
 use Rattle.pkt_receive.specs.declared.receive.Receiver.{Receiver}
-use Rattle.pkt_receive.specs.Fate.{fate_at, fate_of, fate_with, is_lost, lost_for, mtu_at}
+use Rattle.pkt_receive.specs.Classes.{class_at, class_of, class_with}
+use Rattle.pkt_receive.specs.Colours.{Colours}
+use Rattle.pkt_receive.specs.Fate.{drops, fate_by, fate_of, fates_from, is_lost, lost_for, policed}
 use Rattle.pkt_receive.specs.declared.losses.Losses.{Losses}
 use Rattle.pkt_receive.specs.Losses.{losses_of}
 use Rattle.port_egress.specs.Run.{Setup, schedule_by}
@@ -31,7 +37,7 @@ use Rattle.run_journal.specs.Schedule.{arrivals_of}
 use Rattle.qos_pipeline.specs.PortEnds.{ArePortEnds, IsPortEnd, journals}
 use Rattle.qos_pipeline.specs.Ports.{setup_of}
 use Rattle.qos_pipeline.specs.Took.{IsSummed}
-use Rattle.qos_main.specs.declared.ended.InputEnd.{InputEnd}
+use Rattle.run_report.specs.declared.ended.InputEnd.{InputEnd}
 use Rattle.qos_main.specs.Account.{IsAccount, lost_to}
 use Rattle.qos_main.specs.Ended.{IsEndOf, ended_at, reasons_of, sums_over}
 
@@ -73,7 +79,8 @@ sum-read f g read (x ∷ xs) each =
 abbrev arrivals_in : List Entry → ℕ
 arrivals_in journal = length (arrivals_of journal)
 
-module _ (p : Plan) (origin : ℕ) (ends : List PortEnd) (count : length ends ≡ length p.ports) (are : ArePortEnds p origin ends) where
+module _ (p : Plan) (origin : ℕ) (ends : List PortEnd) (count : length ends ≡ length p.ports)
+    (are : ArePortEnds p origin ends) where
   end-counted : (n : ℕ) (end : PortEnd) → slice_get ends n ≡ Some end → ended_at end ≡ arrivals_in end.journal
   end-counted n end at =
       elim (slice_get_cases p.ports n).1 [
@@ -86,7 +93,8 @@ module _ (p : Plan) (origin : ℕ) (ends : List PortEnd) (count : length ends �
 
 -- the sum of what ended is that of its parts
 ended-parts : (ends : List PortEnd)
-    → sum_by ended_at ends ≡ (sums_over ends).sent + (sums_over ends).left + (sums_over ends).tailfull + (sums_over ends).unwritten
+    → sum_by ended_at ends
+    ≡ (sums_over ends).sent + (sums_over ends).left + (sums_over ends).tailfull + (sums_over ends).unwritten
 ended-parts [] = refl
 ended-parts (end ∷ ends) =
     omega (
@@ -104,43 +112,60 @@ option-cases : {X Y : Type 0} (P : Y → Type 0) (f : X → Y) (none : Y) (o : O
 option-cases P f none None holds each = holds
 option-cases P f none (Some x) holds each = each x
 
--- no record is lost for another reason than these four when it is received
-module _ (number : ℕ) (first : (1 == number) ≡ false) (second : (2 == number) ≡ false) (third : (3 == number) ≡ false)
-    (fourth : (4 == number) ≡ false) (p : Plan) (input : ℕ) where
-  abbrev IsElse : Fate → Type 0
-  IsElse fate = is_lost number fate ≡ false
+-- no record lacks a slot when it is received
+abbrev IsSlotted : Fate → Type 0
+IsSlotted fate = is_lost 5 fate ≡ false
 
-  not-lost : (r : Record) → IsElse (fate_of p input r)
-  not-lost r =
-      cond_both (nat_lt p.pool.slot_bytes r.cap) (Lost TooLong) (option_map_or (fate_with p input r) _ (Lost Unparsed)) IsElse
-      (λ _. fourth)
-      (λ _. option-cases IsElse (fate_with p input r) (Lost Unparsed) _ first
-      (λ frame. option-cases IsElse (fate_at p r) (Lost Unmatched) _ second
-      (λ place. cond_both (nat_lt (mtu_at p place.port) r.wire) (Lost Oversize) (Admitted place) IsElse (λ _. third) (λ _. refl))))
+-- what has no class has another reason
+abbrev IsClass : Result Classified Reason → Type 0
+IsClass (Ok class) = Unit {0}
+IsClass (Err reason) = IsSlotted (Lost reason)
 
-  lost-none : (records : List Record) → lost_for p input number records ≡ 0
-  lost-none [] = refl
-  lost-none (r ∷ rs) =
-      let counted : Record → ℕ = λ x. if is_lost number (fate_of p input x) then 1 else 0 in
-      sum_by-cons counted r rs ∙ rw (not-lost r, lost-none rs)
+slotted-by : (p : Plan) (colour : ℕ → Colour) (class : Result Classified Reason) → IsClass class
+    → IsSlotted (fate_by p colour class)
+slotted-by p colour (Err reason) is = is
+slotted-by p colour (Ok class) is =
+    let place = class.place in
+    option-cases IsSlotted (λ meter. policed p meter (colour meter) place) (Admitted place place.pre) place.meter refl
+    (λ meter. cond_both (drops p meter (colour meter)) (Lost Policed) (Admitted place (colour meter)) IsSlotted
+    (λ _. refl) (λ _. refl))
 
-module _ {S : Type 0} {F : Sources S} (p : Plan) (origin : ℕ) (given : List Record) (rx : Receiver S F) (ends : List PortEnd)
-    (input : InputEnd) (numbers : IsEndOf rx (sums_over ends) input) where
+class-is : (p : Plan) (input : ℕ) (r : Record) → IsClass (class_of p input r)
+class-is p input r =
+    cond_both (nat_lt p.pool.slot_bytes r.cap) (Err TooLong)
+    (option_map_or (class_with p input r) _ (Err Unparsed)) IsClass (λ _. refl)
+    (λ _. option-cases IsClass (class_with p input r) (Err Unparsed) _ refl
+    (λ frame. option-cases IsClass (class_at p r frame) (Err Unmatched) _ refl
+    (λ place. cond_both _ (Err Oversize) (Ok (record { place = place; len = r.wire - frame.header })) IsClass
+    (λ _. refl) (λ _. tt))))
+
+none-unslotted : (p : Plan) (colours : Colours) (input index : ℕ) (records : List Record)
+    → count_by (is_lost 5) (fates_from p colours input index records) ≡ 0
+none-unslotted p colours input index [] = refl
+none-unslotted p colours input index (r ∷ rs) =
+    let fate = fate_of p colours input index r in
+    let rest = fates_from p colours input (index + 1) rs in
+    let slotted = slotted-by p (λ meter. colours meter input index) (class_of p input r) (class-is p input r) in
+    sum_by-cons (λ (f : Fate). if is_lost 5 f then 1 else 0) fate rest
+    ∙ rw (slotted, none-unslotted p colours input (index + 1) rs)
+
+module _ {S : Type 0} {F : Sources S} (p : Plan) (colours : Colours) (origin : ℕ) (given : List Record)
+    (rx : Receiver S F) (ends : List PortEnd) (input : InputEnd) (numbers : IsEndOf rx (sums_over ends) input) where
   at-place : (i n : ℕ) → slice_index_or (reasons_of rx (sums_over ends)) i 0 ≡ n → slice_index_or input.reasons i 0 ≡ n
   at-place i n is = ap (λ ns. slice_index_or ns i 0) numbers.reasons ∙ is
 
-  reasons-are : rx.losses ≡ losses_of p 0 given → (reason : Reason)
-      → slice_index_or input.reasons (reason_number reason - 1) 0 ≡ lost_to p 0 given ends reason
-  reasons-are losses Unparsed = at-place 0 (lost_for p 0 1 given) (ap (λ (l : Losses). l.unparsed) losses)
-  reasons-are losses Unmatched = at-place 1 (lost_for p 0 2 given) (ap (λ (l : Losses). l.unmatched) losses)
-  reasons-are losses Oversize = at-place 2 (lost_for p 0 3 given) (ap (λ (l : Losses). l.oversize) losses)
-  reasons-are losses TooLong = at-place 3 (lost_for p 0 4 given) (ap (λ (l : Losses). l.too_long) losses)
-  reasons-are losses NoSlot = at-place 4 (lost_for p 0 5 given) (sym (lost-none 5 refl refl refl refl p 0 given))
-  reasons-are losses Policed = at-place 5 (lost_for p 0 6 given) (sym (lost-none 6 refl refl refl refl p 0 given))
+  reasons-are : rx.losses ≡ losses_of p colours 0 given → (reason : Reason)
+      → slice_index_or input.reasons (reason_number reason - 1) 0 ≡ lost_to p colours 0 given ends reason
+  reasons-are losses Unparsed = at-place 0 (lost_for p colours 0 1 given) (ap (λ (l : Losses). l.unparsed) losses)
+  reasons-are losses Unmatched = at-place 1 (lost_for p colours 0 2 given) (ap (λ (l : Losses). l.unmatched) losses)
+  reasons-are losses Oversize = at-place 2 (lost_for p colours 0 3 given) (ap (λ (l : Losses). l.oversize) losses)
+  reasons-are losses TooLong = at-place 3 (lost_for p colours 0 4 given) (ap (λ (l : Losses). l.too_long) losses)
+  reasons-are losses NoSlot = at-place 4 (lost_for p colours 0 5 given) (sym (none-unslotted p colours 0 0 given))
+  reasons-are losses Policed = at-place 5 (lost_for p colours 0 6 given) (ap (λ (l : Losses). l.policed) losses)
   reasons-are losses TailFull = at-place 6 (sums_over ends).tailfull refl
 
-  pub is-account : length ends ≡ length p.ports → ArePortEnds p origin ends → IsSummed rx (journals ends) → rx.read ≡ length given
-      → rx.losses ≡ losses_of p 0 given → IsAccount p 0 given ends input
+  pub is-account : length ends ≡ length p.ports → ArePortEnds p origin ends → IsSummed rx (journals ends)
+      → rx.read ≡ length given → rx.losses ≡ losses_of p colours 0 given → IsAccount p colours 0 given ends input
   is-account count are summed read losses =
       let reasons : sum input.reasons ≡ sum (reasons_of rx (sums_over ends)) = ap sum numbers.reasons in
       let ended : sum_by ended_at ends ≡ sum_by arrivals_in (journals ends) = all-counted p origin ends count are in
@@ -166,14 +191,16 @@ module _ {S : Type 0} {F : Sources S} (p : Plan) (origin : ℕ) (given : List Re
 
 -- the numbers of the ports have their sum within the number of records read
 pub ended-within : {S : Type 0} {F : Sources S} (p : Plan) (origin : ℕ) (rx : Receiver S F) (ends : List PortEnd)
-    → length ends ≡ length p.ports → ArePortEnds p origin ends → IsSummed rx (journals ends) → sum_by ended_at ends ≤ rx.read
+    → length ends ≡ length p.ports → ArePortEnds p origin ends → IsSummed rx (journals ends)
+    → sum_by ended_at ends ≤ rx.read
 ended-within p origin rx ends count are summed =
     let ended : sum_by ended_at ends ≡ sum_by arrivals_in (journals ends) = all-counted p origin ends count are in
     omega (arith, ended, summed)
 
 -- one number of the ports up to a place, and that of the port there, fit
-pub part-fits : (f : PortEnd → ℕ) → ((end : PortEnd) → f end ≤ ended_at end) → (ports : List PortEnd) (i : ℕ) (end : PortEnd)
-    → i < length ports → end ≡ get_or ports i end → sum_by ended_at ports < 2 ^ 64 → (n : ℕ) → n ≡ sum_by f (take i ports)
+pub part-fits : (f : PortEnd → ℕ) → ((end : PortEnd) → f end ≤ ended_at end) → (ports : List PortEnd) (i : ℕ)
+    (end : PortEnd) → i < length ports → end ≡ get_or ports i end → sum_by ended_at ports < 2 ^ 64
+    → (n : ℕ) → n ≡ sum_by f (take i ports)
     → Fits w64 (n + f end)
 part-fits f part ports i end within is few n so =
     let here : f end ≡ f (get_or ports i end) = ap f is in

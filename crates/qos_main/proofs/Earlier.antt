@@ -1,4 +1,5 @@
--- What a run on a shelf comes to, said from an earlier shelf on, from which no file has changed; and with another number in the end.
+-- What a run on a shelf comes to, said from an earlier shelf on, from which no file has changed; and with another
+-- number in the end.
 use Rattle.std.specs.Prelude.{◌≡◌, ◌≤◌, ℕ, List, [], length}
 use Rattle.std.specs.List.{Contains}
 use Rattle.std.proofs.Common.{ap, ◌∙◌, arith}
@@ -9,9 +10,9 @@ use Rattle.port_files.specs.Among.{ChangesAmong, ChangesAmong-then, ChangesAmong
 use Rattle.qos_pipeline.specs.Since.{AreLeft-since, AreWritten-since}
 use Rattle.qos_words.specs.Names.{output_name, output_names}
 use Rattle.qos_words.specs.Words.{Asked}
-use Rattle.qos_main.specs.declared.ended.Ended.{Ended}
-use Rattle.qos_main.specs.declared.ended.InputEnd.{InputEnd}
-use Rattle.qos_main.specs.declared.status.Status.{Status}
+use Rattle.run_report.specs.declared.ended.Ended.{Ended}
+use Rattle.run_report.specs.declared.ended.InputEnd.{InputEnd}
+use Rattle.run_report.specs.declared.status.Status.{Status}
 use Rattle.qos_main.specs.Run.{IsOutcome, IsRun, IsRefused, HasRefused, capture_on, changes_of}
 
 pub nowhere : (name : List ℕ) → Contains [] name → ⊥
@@ -21,11 +22,15 @@ nowhere name among = absurd (omega (arith, among.1))
 abbrev pub numbered : Ended → ℕ → Ended
 numbered ended number = record ended { status = number }
 
-module _ {H In Out : Type 0} {G : Ghosts H In Out} (command : Asked) (p : Plan) (first old new : H) (kept : ChangesAmong G [] first old) where
+module _ {H In Out : Type 0} {G : Ghosts H In Out} (command : Asked) (p : Plan) (first old new : H)
+    (kept : ChangesAmong G [] first old) where
   bytes-same : capture_on G command old ≡ capture_on G command first
   bytes-same = ap bytes_in (kept.files command.capture (nowhere command.capture))
 
-  files-since : ChangesAmong G (output_names command.prefix (length p.ports)) old new → ChangesAmong G (output_names command.prefix (length p.ports)) first new
+  abbrev ToOutputs : H → Type 0
+  ToOutputs shelf = ChangesAmong G (output_names command.prefix (length p.ports)) shelf new
+
+  files-since : ToOutputs old → ToOutputs first
   files-since changes = ChangesAmong-then (ChangesAmong-wider (λ n among. absurd (nowhere n among)) kept) changes
 
   outcome-since : G.Tells first → G.faults old ≤ G.faults new → (input : InputEnd) (ended : Ended) (number : ℕ)
@@ -42,9 +47,11 @@ module _ {H In Out : Type 0} {G : Ghosts H In Out} (command : Asked) (p : Plan) 
     not_opened = is.not_opened;
     origin = is.origin;
     origin_is = rw bytes-same at is.origin_is;
+    logs = is.logs;
     merge = is.merge;
     ports = is.ports;
-    outputs = AreWritten-since tells kept on (output_name command.prefix) p is.origin is.records ended.ports ended.write_fault is.outputs;
+    outputs = AreWritten-since tells kept on (output_name command.prefix) p is.origin is.records ended.ports
+        ended.write_fault is.outputs;
     account = is.account;
   }
 
@@ -57,14 +64,19 @@ module _ {H In Out : Type 0} {G : Ghosts H In Out} (command : Asked) (p : Plan) 
     faults = run.faults;
     status_is = run.status_is;
     read = λ sure fault. run.read ((kept.same_to_read command.capture (nowhere command.capture)).1 sure) fault;
-    absent = λ tells none unsure. run.absent (kept.tells.1 tells) (kept.files command.capture (nowhere command.capture) ∙ none)
+    absent = λ tells none unsure.
+        run.absent (kept.tells.1 tells) (kept.files command.capture (nowhere command.capture) ∙ none)
         (λ sure. unsure ((kept.same_to_read command.capture (nowhere command.capture)).0 sure));
     write = λ n sure fault. run.write n ((kept.same_to_write (output_name command.prefix n)).1 sure) fault;
-    outcome = λ tells. outcome-since tells run.files.never_falls run.input ended number (run.outcome (kept.tells.1 tells));
+    outcome = λ tells.
+        outcome-since tells run.files.never_falls run.input ended number (run.outcome (kept.tells.1 tells));
+    meters = run.meters;
+    note = run.note;
     files = files-since run.files;
   }
 
-  refused-since : G.Tells first → G.faults old ≤ G.faults new → IsRefused G command p old new → IsRefused G command p first new
+  refused-since : G.Tells first → G.faults old ≤ G.faults new → IsRefused G command p old new
+      → IsRefused G command p first new
   refused-since tells on is = record {
     records = is.records;
     stop = is.stop;

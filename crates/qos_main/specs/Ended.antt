@@ -4,7 +4,7 @@ use Rattle.std.specs.List.{sum_by}
 use Rattle.qos_io.specs.declared.source.Source.{Ghosts}
 use Rattle.pkt_receive.specs.declared.receive.Receiver.{Receiver}
 use Rattle.run_journal.specs.declared.ended.PortEnd.{PortEnd}
-use Rattle.qos_main.specs.declared.ended.InputEnd.{InputEnd}
+use Rattle.run_report.specs.declared.ended.InputEnd.{InputEnd}
 use Rattle.qos_main.specs.declared.run.Sums.{Sums}
 
 -- how many packets of a port were sent, wait or were turned away
@@ -20,10 +20,11 @@ sums_over ends = record {
   unwritten = sum_by (λ end. end.counts.unwritten) ends;
 }
 
--- the reasons' numbers, in their order: no slot is wanted and nothing is policed, and the tails of queues are the ports'
+-- the reasons' numbers, in their order: no slot is wanted, and the tails of queues are the ports'
 abbrev pub reasons_of : {S : Type 0} {F : Ghosts S} → Receiver S F → Sums → List ℕ
 reasons_of rx sums =
-    rx.losses.unparsed ∷ rx.losses.unmatched ∷ rx.losses.oversize ∷ rx.losses.too_long ∷ 0 ∷ 0 ∷ sums.tailfull ∷ []
+    rx.losses.unparsed ∷ rx.losses.unmatched ∷ rx.losses.oversize ∷ rx.losses.too_long ∷ 0 ∷ rx.losses.policed
+    ∷ sums.tailfull ∷ []
 
 -- the numbers of an input whose packets came to these sums
 pub record IsEndOf {S : Type 0} {F : Ghosts S} (rx : Receiver S F) (sums : Sums) (end : InputEnd) : Type 0 where

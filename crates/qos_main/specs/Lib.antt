@@ -1,5 +1,3 @@
-pub mod Status
-pub mod Report
 pub mod Ended
 pub mod Account
 pub mod Run

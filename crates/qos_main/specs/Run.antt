@@ -10,7 +10,9 @@ use Rattle.qos_pcap.specs.Format.{Record}
 use Rattle.qos_pcap.specs.Reads.{Reads}
 use Rattle.profile_plan.specs.Profile.{Plan}
 use Rattle.pkt_receive.specs.declared.limits.TheConstants.{MAX_RECORDS}
+use Rattle.pkt_receive.specs.Colours.{colours_in}
 use Rattle.pkt_receive.specs.Fate.{admitted, to_port}
+use Rattle.pkt_receive.specs.Marks.{AreLegalLogs, AreLogsFor}
 use Rattle.pkt_receive.specs.Receiver.{IsReadFault}
 use Rattle.port_files.specs.Among.{ChangesAmong}
 use Rattle.port_files.specs.Change.{FileChange, change_of}
@@ -19,11 +21,12 @@ use Rattle.run_journal.specs.Schedule.{arrivals_of}
 use Rattle.qos_pipeline.specs.PortEnds.{AreLeft, ArePortEnds, AreWritten}
 use Rattle.qos_words.specs.Names.{output_name, output_names}
 use Rattle.qos_words.specs.Words.{Asked}
-use Rattle.qos_main.specs.declared.ended.Ended.{Ended}
-use Rattle.qos_main.specs.declared.ended.InputEnd.{InputEnd}
-use Rattle.qos_main.specs.declared.status.Status.{Status}
+use Rattle.run_report.specs.declared.ended.Ended.{Ended}
+use Rattle.run_report.specs.declared.ended.InputEnd.{InputEnd}
+use Rattle.run_report.specs.declared.ended.Note.TheVariants.{Nothing}
+use Rattle.run_report.specs.declared.status.Status.{Status}
 use Rattle.qos_main.specs.Account.{IsAccount}
-use Rattle.qos_main.specs.Status.{status_for}
+use Rattle.run_report.specs.Status.{status_for}
 
 -- The run of a profile over a capture with these bytes, where `change` tells what became of the file of each port.
 pub record IsOutcome (p : Plan) (bytes : List ℕ) (change : ℕ → FileChange) (input : InputEnd) (ended : Ended) : Type 0 where
@@ -40,13 +43,17 @@ pub record IsOutcome (p : Plan) (bytes : List ℕ) (change : ℕ → FileChange)
   -- the origin is the stamp of the first head in the bytes; where none was read there is no record
   pub origin : ℕ
   pub origin_is : (origin ≡ origin_of (first_stamp bytes MAX_RECORDS ∷ [])) ⊎ (given ≡ [])
-  -- the arrivals in each port's journal are the admitted packets of the capture for that port, each once and in order
-  pub merge : (n : ℕ) (end : PortEnd) → slice_get ended.ports n ≡ Some end → arrivals_of end.journal ≡ to_port n (admitted p 0 given)
+  -- each meter's log is legal and has exactly one mark for each record that reaches the meter, in order, and no other
+  pub logs : AreLogsFor p origin 0 given ended.meters
+  -- the arrivals in each port's journal are the admitted packets of the capture for that port, each once and in order, with the
+  -- colours in the meters' logs
+  pub merge : (n : ℕ) (end : PortEnd) → slice_get ended.ports n ≡ Some end
+      → arrivals_of end.journal ≡ to_port n (admitted p (colours_in ended.meters) 0 given)
   -- each journal is the paced journal of its arrivals, and each port's numbers are those of its schedule
   pub ports : ArePortEnds p origin ended.ports
   -- each output is what the schedule of the port's journal sends
   pub outputs : AreWritten p origin records change ended.ports ended.write_fault
-  pub account : IsAccount p 0 given ended.ports input
+  pub account : IsAccount p (colours_in ended.meters) 0 given ended.ports input
 
 -- what became of the file of each port, where a command ran on a shelf that was `old` and is `new`
 abbrev pub changes_of : {H In Out : Type 0} → Ghosts H In Out → Asked → H → H → ℕ → FileChange
@@ -71,6 +78,9 @@ module _ {H In Out : Type 0} (G : Ghosts H In Out) (command : Asked) (p : Plan) 
     -- an output has a fault only where its own name is not sure to write
     pub write : (n : ℕ) → G.IsSureToWrite old (output_name command.prefix n) → slice_get ended.write_fault n ≡ Some true → ⊥
     pub outcome : G.Tells old → IsOutcome p (capture_on G command old) (changes_of G command old new) input ended
+    -- the log of each meter is legal, whatever the capture holds
+    pub meters : AreLegalLogs p ended.meters
+    pub note : ended.note ≡ Nothing
     -- no file changes but the outputs
     pub files : ChangesAmong G (output_names command.prefix (length p.ports)) old new
 

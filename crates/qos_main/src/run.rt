@@ -4,8 +4,6 @@ ghost use Rattle.std.specs.List.{sum_by};
 ghost use Rattle.qos_main.specs.Ended.{IsEndOf, ended_at, sums_over};
 ghost use Rattle.qos_main.specs.Run.{HasRefused, IsRun};
 
-use crate::ended::{Ended, InputEnd};
-use crate::status::Status;
 use pkt_receive::{Receiver, open_input};
 use profile_plan::Profile;
 use qos_base::{NoMemory, Sequence};
@@ -14,7 +12,9 @@ use qos_pcap::laws::reads_one_way;
 use qos_pipeline::{RunEnd, run_outputs};
 use qos_words::RunWords;
 use run_journal::PortEnd;
+use run_report::{Ended, InputEnd, Note, Status};
 use std::alloc::Global;
+use std::sync::Wait;
 
 // The sums of the numbers of all ports.
 #[derive(Clone, Copy)]
@@ -61,7 +61,7 @@ fn input_end<S: Source>(alloc: Global, input: &Receiver<S>, ports: &[PortEnd]) -
             losses.oversize,
             losses.too_long,
             0,
-            0,
+            losses.policed,
             sums.tailfull,
         ],
         unwritten: sums.unwritten,
@@ -71,10 +71,11 @@ fn input_end<S: Source>(alloc: Global, input: &Receiver<S>, ports: &[PortEnd]) -
 }
 
 /// Runs a command over its profile: the capture is opened, and its packets go one after another through the ports of the
-/// profile and into the outputs. No rule of the profile names a meter.
+/// profile and into the outputs.
 ///
-/// `NoMemory`: memory was refused, and the run is over.
-pub fn run<H: Shelf>(
+/// `NoMemory`: memory was refused, and the run is over. The call may wait.
+pub fn run<R: Wait, H: Shelf>(
+    rt: &R,
     alloc: Global,
     command: &RunWords<'_>,
     p: &Profile,
@@ -86,14 +87,20 @@ pub fn run<H: Shelf>(
     reads_one_way();
     let mut input = open_input(shelf, command.capture, 0)?;
     let mut inputs = Vec::with_capacity(alloc, 1)?;
-    let RunEnd { ports, write_fault } = run_outputs(alloc, shelf, p, command.prefix, &mut input)?;
+    let RunEnd {
+        ports,
+        meters,
+        write_fault,
+    } = run_outputs(rt, alloc, shelf, p, command.prefix, &mut input)?;
     let status = Status::of_run(input.stopped, &write_fault);
     inputs.push_reserved(input_end(alloc, &input, &ports));
     let ended = Ended {
         status: status.number(),
         ports: Sequence::of(ports),
+        meters: Sequence::of(meters),
         inputs: Sequence::of(inputs),
         write_fault: Sequence::of(write_fault),
+        note: Note::Nothing,
     };
     Ok((ended, status))
 }

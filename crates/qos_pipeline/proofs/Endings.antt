@@ -9,6 +9,7 @@ use Rattle.qos_io.specs.declared.sink.PutFault.TheVariants.{Failed, NoMemory}
 use Rattle.qos_io.specs.declared.sink.Sink.{Ghosts as Sinks}
 use Rattle.qos_io.specs.Fault.{HasRisen-late}
 use Rattle.qos_pcap.specs.Format.{Record}
+use Rattle.pkt_receive.specs.Colours.{Colours}
 use Rattle.pkt_receive.specs.Fate.{admitted, to_port}
 use Rattle.run_journal.specs.declared.ended.PortEnd.{PortEnd}
 use Rattle.run_journal.specs.declared.entry.Entry.{Entry}
@@ -96,14 +97,14 @@ module _ {H In Out : Type 0} (F : Shelves H In Out) (G : Sinks Out) (name : List
         ending.told ending.settled))
 
     -- what is left of it where memory was refused, by the records whose paced journal its own begins
-    pub left-halted : (n input : ℕ) (given rest : List Record) → records ≡ given ++ rest
-        → Begins e.port.journal (paced_journal s (to_port n (admitted s.profile input given)))
+    pub left-halted : (colours : Colours) (n input : ℕ) (given rest : List Record) → records ≡ given ++ rest
+        → Begins e.port.journal (paced_journal s (to_port n (admitted s.profile colours input given)))
         → IsLeft s n input records (change_of F name old new)
-    left-halted n input given rest parts begins = left ended where
+    left-halted colours n input given rest parts begins = left ended where
       left : HasEnded G (change_of F name old new) e.sender → IsLeft s n input records (change_of F name old new)
       left (absent none rose same file) = inl (record { file = elim file [ inl is ↦ inl is | inr is ↦ inr (rose, is) ]; closed = same })
       left (present k held there holds shut) =
-          let paced : List Entry = paced_journal s (to_port n (admitted s.profile input given)) in
+          let paced : List Entry = paced_journal s (to_port n (admitted s.profile colours input given)) in
           let later = sends-begin (started s.profile s.plan) e.port.journal paced begins in
           let first = held-first (target_of e.sender (bodies_of records)) (sends_by s e.port.journal) later.0
           (sends_by s paced) e.sender.fault e.sender.sent held later.1
@@ -112,6 +113,7 @@ module _ {H In Out : Type 0} (F : Shelves H In Out) (G : Sinks Out) (name : List
             given = given;
             rest = rest;
             parts = parts;
+            colours = colours;
             count = length held;
             held = held;
             is = subst (λ (t : Target). held ≡ take (length held) (output_text t (sends_by s paced))) target-is first;

@@ -4,7 +4,7 @@ use Rattle.std.proofs.lemmas.List.{append-nil}
 use Rattle.qos_base.specs.declared.packet.Pkt.{Pkt}
 use Rattle.qos_io.specs.declared.sink.Sink.{Ghosts as Sinks}
 use Rattle.port_sched.specs.Port.{Port}
-use Rattle.pkt_receive.specs.declared.mbuf.Mbuf.{Mbuf}
+use Rattle.pkt_slots.specs.declared.mbuf.Mbuf.{Mbuf}
 use Rattle.run_journal.specs.declared.pace.Pace.{Pace}
 use Rattle.run_journal.specs.declared.entry.Entry.{Entry}
 use Rattle.run_journal.specs.Advancing.{AdvanceSteps}

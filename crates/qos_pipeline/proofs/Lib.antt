@@ -15,3 +15,5 @@ mod Turned
 mod Drained
 mod Goes
 mod Runs
+mod Metered
+mod Logged

@@ -6,7 +6,7 @@ use Rattle.qos_base.specs.declared.packet.Pkt.{Pkt}
 use Rattle.qos_io.specs.declared.sink.Sink.{Ghosts as Sinks}
 use Rattle.profile_plan.specs.declared.port.PortPlan.{PortPlan}
 use Rattle.profile_plan.specs.Profile.{Plan}
-use Rattle.pkt_receive.specs.declared.mbuf.Mbuf.{Mbuf}
+use Rattle.pkt_slots.specs.declared.mbuf.Mbuf.{Mbuf}
 use Rattle.run_journal.specs.PortRun.{RunState}
 use Rattle.port_egress.specs.declared.egress.Egress.{Egress}
 use Rattle.port_egress.specs.Egress.{IsUnbegun}

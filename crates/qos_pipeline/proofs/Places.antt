@@ -18,6 +18,10 @@ pub from-some : {A : Type 0} (P : A → Type 0) (o : Option A) (a : A) → o ≡
 from-some P None a is p = absurd (let not : ⊥ = cc in not)
 from-some P (Some b) a is p = subst P (same_Some b a is) p
 
+-- the first element
+pub same-at : {X : Type 0} (y x : X) → Some y ≡ Some x → y ≡ x
+same-at y x is = same_Some y x is
+
 module _ {X : Type 0} where
   -- each place of a list has an element
   pub there : (xs : List X) (n : ℕ) → n < length xs → (x : X) × (slice_get xs n ≡ Some x)
@@ -54,7 +58,7 @@ module _ {X : Type 0} where
   pub part-came : (came : List X) (x : X) (later left all : List X) → came ++ left ≡ all → left ≡ x ∷ later → (came ++ x ∷ []) ++ later ≡ all
   part-came came x later left all parts step = append_assoc came (x ∷ []) later ∙ ap (λ ys. came ++ ys) (sym step) ∙ parts
 
-  nothing-left : (xs : List X) → length xs ≡ 0 → xs ≡ []
+  pub nothing-left : (xs : List X) → length xs ≡ 0 → xs ≡ []
   nothing-left [] none = refl
   nothing-left (x ∷ xs) none = absurd (omega arith)
 

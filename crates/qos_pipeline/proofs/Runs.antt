@@ -1,9 +1,8 @@
 -- A run over all ports, from an input that was opened to the drain.
-use Rattle.std.proofs.Common.{◌≡◌, ℕ, zero, suc, List, [], ◌∷◌, length, map, None, Some, Result, Ok, Err, OnOk, OnErr}
-use Rattle.std.proofs.Common.{refl, sym, ap, ◌∙◌, subst, arith}
+use Rattle.std.proofs.Common.{◌≡◌, ℕ, suc, List, [], ◌∷◌, length, None, Some, Result, Ok, Err, OnOk, OnErr}
+use Rattle.std.proofs.Common.{refl, ap, ◌∙◌, subst, arith}
 use Rattle.std.specs.List.{slice_get, sum_by}
 use Rattle.std.proofs.lemmas.List.Sums.{sum_by-cons}
-use Rattle.std.proofs.lemmas.Option.{slice_get_within}
 use Rattle.qos_base.specs.declared.memory.NoMemory.{NoMemory}
 use Rattle.qos_io.specs.declared.sink.Sink.{Ghosts as Sinks}
 use Rattle.qos_io.specs.declared.source.Source.{Ghosts as Sources}
@@ -11,17 +10,23 @@ use Rattle.qos_pcap.specs.declared.fault.Stop.{Stop}
 use Rattle.qos_pcap.specs.Format.{Record}
 use Rattle.profile_plan.specs.Profile.{Plan}
 use Rattle.pkt_receive.specs.declared.receive.Receiver.{Receiver}
+use Rattle.pkt_receive.specs.declared.marker.Marker.{Marker}
+use Rattle.pkt_receive.specs.Colours.{colours_by}
 use Rattle.pkt_receive.specs.Fate.{admitted, to_port}
+use Rattle.pkt_receive.specs.Laws.{MarksAgree}
+use Rattle.pkt_receive.specs.Marks.{IsMarking}
 use Rattle.pkt_receive.specs.Receiver.{IsFresh, IsReading, ToCome}
+use Rattle.meter_table.specs.declared.mark.Mark.{Mark}
 use Rattle.run_journal.specs.Schedule.{arrivals_of}
 use Rattle.port_egress.specs.declared.egress.Egress.{Egress}
 use Rattle.port_egress.specs.Egress.{HasHalted, IsDrained}
 use Rattle.qos_pipeline.specs.Ports.{AllCarry, AtPorts, SendersStay, bodies_of, journals_of, setup_of}
-use Rattle.qos_pipeline.specs.Took.{HasBegun, HasStopped, IsSummed, Took}
+use Rattle.qos_pipeline.specs.Took.{HasBegun, HasStopped, IsSummed, TookBy}
 use Rattle.qos_pipeline.specs.Turns.{Goes, GoesOn, Halts, HasComeTo, HaveDrained}
 use Rattle.qos_pipeline.proofs.Changed.{there-too}
 use Rattle.qos_pipeline.proofs.Stays.{SendersStay-then}
-use Rattle.qos_pipeline.proofs.Turned.{arrived, sum-arrived}
+use Rattle.qos_pipeline.proofs.Places.{nothing-left}
+use Rattle.qos_pipeline.proofs.Turned.{arrived, merge-at, sum-arrived, taken-by}
 
 module _ {X : Type 0} where
   -- a sum of nothing
@@ -44,24 +49,23 @@ module _ {X : Type 0} where
     sum-same size xs ys (omega arith) (λ n a b was is. same (suc n) a b was is),
   )
 
-  -- what is seen at an index is seen of the element there
-  seen-at : {Y : Type 0} (f : X → Y) (xs : List X) (n : ℕ) (y : Y) → slice_get (map f xs) n ≡ Some y
-      → (x : X) × (slice_get xs n ≡ Some x) × (f x ≡ y)
-  seen-at f [] n y is = absurd (let within = slice_get_within [] n y is in omega arith)
-  seen-at f (x ∷ xs) zero y is = (x, refl, cc)
-  seen-at f (x ∷ xs) (suc n) y is = seen-at f xs n y is
-
 module _ {S K : Type 0} {F : Sources S} {G : Sinks K} {p : Plan} where
-  -- an input that was opened, and ports that have begun
-  module _ {rx : Receiver S F} {es : List (Egress K G)} (fresh : IsFresh 0 rx) (begun : AtPorts p rx.origin HasBegun es) where
+  -- an input that was opened, with no marks, and ports that have begun
+  module _ {rx : Receiver S F} {marker : Marker} {es : List (Egress K G)} (fresh : IsFresh 0 rx) (marking : IsMarking p 0 marker)
+      (begun : AtPorts p rx.origin HasBegun es) where
     none-arrived : (n : ℕ) (e : Egress K G) → slice_get es n ≡ Some e → arrivals_of e.port.journal ≡ []
     none-arrived n e is =
         let plan = there-too p.ports es n e begun.count is in
         ap arrivals_of (begun.each n plan.0 e plan.1 is).none
 
-    pub goes-start : IsReading F rx → Goes p rx es
-    goes-start reading = record {
+    none-marked : marker.marks.items ≡ []
+    none-marked = nothing-left marker.marks.items (omega (arith, marking.few))
+
+    pub goes-start : marker.origin ≡ rx.origin → IsReading F rx → Goes p rx marker es
+    goes-start origin reading = record {
       reading = reading;
+      marking = record { settings = marking.settings; few = rw fresh.read_is marking.few };
+      origin = origin;
       opened = record {
         count = begun.count;
         each = λ n plan e port is. ((begun.each n plan e port is).opened, (begun.each n plan e port is).ready);
@@ -73,29 +77,30 @@ module _ {S K : Type 0} {F : Sources S} {G : Sinks K} {p : Plan} where
       ));
     }
 
-    come-start : (records : List Record) (stop : Stop) → ToCome F rx records stop → HasComeTo p records stop rx es
+    come-start : (records : List Record) (stop : Stop) → ToCome F rx records stop
+        → HasComeTo p records stop rx marker.marks.items es
     come-start records stop to_come = record {
       given = [];
       rest = records;
       parts = refl;
       to_come = to_come;
       read = fresh.read_is;
-      losses = fresh.losses_is;
-      merge = none-arrived;
+      asked = rw none-marked refl;
+      taken = λ colours agree. taken-by es fresh.losses_is none-arrived;
     }
 
     -- memory was refused in a turn
-    pub halted-turning : {fs : List (Egress K G)} → Halts p rx es fs → (records : List Record) (stop : Stop)
+    pub halted-turning : {fs : List (Egress K G)} → Halts p rx marker.marks.items es fs → (records : List Record) (stop : Stop)
         → ToCome F rx records stop → AtPorts p rx.origin (HasStopped 0 records) fs
     halted-turning halts records stop to_come =
         rw (← fresh.input_is) (halts.halted records stop (come-start records stop to_come))
 
-    pub carries-turning : {fs : List (Egress K G)} → Halts p rx es fs → (records : List Record) (stop : Stop)
+    pub carries-turning : {fs : List (Egress K G)} → Halts p rx marker.marks.items es fs → (records : List Record) (stop : Stop)
         → ToCome F rx records stop → AllCarry G (bodies_of records) es → AllCarry G (bodies_of records) fs
     carries-turning halts records stop to_come all = halts.carries records stop (come-start records stop to_come) all
 
     -- the turns have come to their end, and the ports are drained
-    module _ {last : Receiver S F} {fs gs : List (Egress K G)} (goes_on : GoesOn p rx last es fs)
+    module _ {last : Receiver S F} {marked : Marker} {fs gs : List (Egress K G)} (goes_on : GoesOn p rx last marker marked es fs)
         {result : Result (Unit {0}) NoMemory} (drained : HaveDrained result fs gs) where
       pub summed-drained : IsSummed last (journals_of gs)
       summed-drained = omega (
@@ -107,7 +112,7 @@ module _ {S K : Type 0} {F : Sources S} {G : Sinks K} {p : Plan} where
       )
 
       pub took-drained : last.head ≡ None → (records : List Record) (stop : Stop) → ToCome F rx records stop
-          → Took p records stop last (journals_of gs)
+          → TookBy p records stop last marked.marks.items (journals_of gs)
       took-drained none records stop to_come =
           let come = goes_on.come records stop (come-start records stop to_come) in
           record {
@@ -116,11 +121,12 @@ module _ {S K : Type 0} {F : Sources S} {G : Sinks K} {p : Plan} where
             parts = come.parts;
             stopped = rw none at come.to_come;
             read = come.read;
-            losses = come.losses;
-            merge = λ n journal is.
-                let seen = seen-at (λ (e : Egress K G). e.port.journal) gs n journal is in
-                let was = there-too fs gs n seen.0 drained.count seen.1 in
-                ap arrivals_of (sym seen.2) ∙ (drained.each n was.0 seen.0 was.1 seen.1).arrivals ∙ come.merge n was.0 was.1;
+            asked = come.asked;
+            taken = λ colours agree.
+                let was = come.taken colours agree in
+                taken-by gs was.losses (λ n g is.
+                let f = there-too fs gs n g drained.count is in
+                (drained.each n f.0 g f.1 is).arrivals ∙ merge-at fs was n f.0 f.1);
           }
 
       pub carries-drained : (records : List Record) (stop : Stop) → ToCome F rx records stop
@@ -134,7 +140,7 @@ module _ {S K : Type 0} {F : Sources S} {G : Sinks K} {p : Plan} where
       senders-drained = SendersStay-then G es fs gs goes_on.senders
           (record { count = drained.count; each = λ n e f was is. (drained.each n e f was is).stays })
 
-    pub ports-drained : {last : Receiver S F} {fs gs : List (Egress K G)} → GoesOn p rx last es fs
+    pub ports-drained : {last : Receiver S F} {marked : Marker} {fs gs : List (Egress K G)} → GoesOn p rx last marker marked es fs
         → (result : Result (Unit {0}) NoMemory) → HaveDrained result fs gs
         → OnOk result (AtPorts p rx.origin (λ n s e. IsDrained s e) gs)
     ports-drained {fs = fs} {gs = gs} goes_on (Err x) drained = tt
@@ -146,14 +152,17 @@ module _ {S K : Type 0} {F : Sources S} {G : Sinks K} {p : Plan} where
           (rw (← goes_on.input.origin) (goes_on.goes.opened.each n plan was.0 port was.1).0);
     }
 
-    pub ports-halted : {last : Receiver S F} {fs gs : List (Egress K G)} → GoesOn p rx last es fs
-        → (result : Result (Unit {0}) NoMemory) → HaveDrained result fs gs
+    pub ports-halted : MarksAgree → {last : Receiver S F} {marked : Marker} {fs gs : List (Egress K G)}
+        → GoesOn p rx last marker marked es fs → (result : Result (Unit {0}) NoMemory) → HaveDrained result fs gs
         → OnErr result ((records : List Record) (stop : Stop) → ToCome F rx records stop
         → AtPorts p rx.origin (HasStopped 0 records) gs)
-    ports-halted {last = last} {fs = fs} {gs = gs} goes_on (Ok u) drained = tt
-    ports-halted {last = last} {fs = fs} {gs = gs} goes_on (Err x) drained = λ records stop to_come.
+    ports-halted law {last = last} {marked = marked} {fs = fs} {gs = gs} goes_on (Ok u) drained = tt
+    ports-halted law {last = last} {marked = marked} {fs = fs} {gs = gs} goes_on (Err x) drained = λ records stop to_come.
         let come = goes_on.come records stop (come-start records stop to_come) in
         let zero_is : last.input ≡ 0 = goes_on.input.input ∙ fresh.input_is in
+        let marks : List Mark = marked.marks.items in
+        let own = colours_by marks in
+        let agree = law p last.origin last.input come.given marks come.asked in
         record {
           count = drained.count ∙ goes_on.goes.opened.count;
           each = λ n plan g port is.
@@ -163,8 +172,9 @@ module _ {S K : Type 0} {F : Sources S} {G : Sinks K} {p : Plan} where
                 given = come.given;
                 rest = come.rest;
                 parts = come.parts;
+                colours = own;
                 halted = subst (λ ps. HasHalted (setup_of p rx.origin plan) ps g)
-                    (come.merge n was.0 was.1 ∙ ap (λ i. to_port n (admitted p i come.given)) zero_is)
+                    (merge-at fs (come.taken own agree) n was.0 was.1 ∙ ap (λ i. to_port n (admitted p own i come.given)) zero_is)
                     ((drained.each n was.0 g was.1 is).halted (setup_of p rx.origin plan) (rw (← goes_on.input.origin) opened));
               };
         }

@@ -3,6 +3,8 @@ use Rattle.std.proofs.Common.{List, refl, sym, ap, ◌∙◌, subst}
 use Rattle.qos_io.specs.declared.sink.Sink.{Ghosts as Sinks}
 use Rattle.qos_io.specs.declared.source.Source.{Ghosts as Sources}
 use Rattle.pkt_receive.specs.declared.receive.Receiver.{Receiver}
+use Rattle.pkt_receive.specs.declared.marker.Marker.{Marker}
+use Rattle.pkt_receive.specs.Marks.{StaysMarker}
 use Rattle.pkt_receive.specs.Receiver.{StaysReceiver}
 use Rattle.port_egress.specs.declared.egress.Egress.{Egress}
 use Rattle.port_egress.specs.declared.send.Sender.{Sender}
@@ -22,6 +24,16 @@ module _ {S : Type 0} (F : Sources S) where
     opened = λ is. let late = second.opened is in let early = first.opened late.0 in (early.0, late.1 ∙ early.1);
     still = λ none. let same = first.still none in second.still (ap (λ (x : Receiver S F). x.head) same ∙ none) ∙ same;
   }
+
+pub StaysMarker-none : (m : Marker) → StaysMarker m m
+StaysMarker-none m = record { table = refl; origin = refl; parts = λ meter. refl }
+
+pub StaysMarker-then : (a b c : Marker) → StaysMarker a b → StaysMarker b c → StaysMarker a c
+StaysMarker-then a b c first second = record {
+  table = second.table ∙ first.table;
+  origin = second.origin ∙ first.origin;
+  parts = λ meter. second.parts meter ∙ first.parts meter;
+}
 
 module _ {K : Type 0} (G : Sinks K) where
   pub StaysSender-none : (a : Sender K) → StaysSender G a a

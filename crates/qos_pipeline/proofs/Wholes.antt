@@ -1,6 +1,6 @@
 -- A run with outputs, from the creation of its outputs to their closing.
 use Rattle.std.proofs.Common.{◌≡◌, ◌<◌, ◌∙◌, [], ℕ, Bool, true, List, length, map, Option, None, Some, IsSome, IfSome}
-use Rattle.std.proofs.Common.{Result, Ok, Err, IfOk, OnErr, String, string_bytes, inl, inr, refl, sym, ap, subst, arith}
+use Rattle.std.proofs.Common.{Result, Ok, Err, OnErr, String, string_bytes, inl, inr, refl, sym, ap, subst, arith}
 use Rattle.std.specs.List.{slice_get}
 use Rattle.std.proofs.lemmas.List.{append-nil, length-map}
 use Rattle.std.proofs.lemmas.List.FromFn.{get_or-map-range_with_len, length-map-range_with_len}
@@ -14,7 +14,10 @@ use Rattle.qos_pcap.specs.Format.{Record}
 use Rattle.profile_plan.specs.declared.port.PortPlan.{PortPlan}
 use Rattle.profile_plan.specs.Profile.{Plan}
 use Rattle.pkt_receive.specs.declared.receive.Receiver.{Receiver}
+use Rattle.pkt_receive.specs.Colours.{colours_by}
 use Rattle.pkt_receive.specs.Fate.{admitted, to_port}
+use Rattle.pkt_receive.specs.Laws.{MarksAgree}
+use Rattle.meter_table.specs.declared.mark.Mark.{Mark}
 use Rattle.run_journal.specs.declared.ended.PortEnd.{PortEnd}
 use Rattle.run_journal.specs.PortRun.{HasCounts}
 use Rattle.run_journal.specs.Schedule.{arrivals_of, schedule_from}
@@ -31,19 +34,12 @@ use Rattle.qos_words.specs.Names.{NamesApart, output_name, output_names}
 use Rattle.qos_pipeline.specs.Outputs.{AreEndings, AreShut, HaveBegunWith, HaveEnded, IsDropped, IsEndOf, sinks_of}
 use Rattle.qos_pipeline.specs.PortEnds.{AreLeft, ArePortEnds, AreWritten, IsPortEnd}
 use Rattle.qos_pipeline.specs.Ports.{AllCarry, AtPorts, SendersStay, bodies_of, journals_of, setup_of}
-use Rattle.qos_pipeline.specs.Took.{HasStopped, Took}
+use Rattle.qos_pipeline.specs.Took.{HasStopped, TookBy}
 use Rattle.qos_pipeline.specs.Written.{IsLeft}
 use Rattle.qos_pipeline.proofs.Endings.{HasEnded, has-ended, left-halted, written-end}
 use Rattle.qos_pipeline.proofs.Lives.{Life, all-carry, life, life-at, sinks-named, sinks-tell, stays}
-use Rattle.qos_pipeline.proofs.Places.{from-some, map-there, one-there, there}
-
--- a success, by what it is
-pub each-ok : {A E : Type 0} (Q : A → Type 0) (r : Result A E) → ((x : A) → r ≡ Ok x → Q x) → IfOk r Q
-each-ok Q (Ok x) each = each x refl
-each-ok Q (Err e) each = tt
-
-pub from-ok : {A E : Type 0} (P : A → Type 0) (r : Result A E) (x : A) → r ≡ Ok x → IfOk r P → P x
-from-ok {E = E} P r x is p = subst (λ (s : Result _ E). IfOk s P) is p
+use Rattle.qos_pipeline.proofs.Places.{from-some, one-there, there}
+use Rattle.qos_pipeline.proofs.Turned.{merge-at}
 
 -- what holds anyway holds of a failure
 pub on-err : {A E P : Type 0} (r : Result A E) → P → OnErr r P
@@ -78,7 +74,16 @@ module _ (prefix : List ℕ) (count : ℕ) where
 pub dropped-left : (s : Setup) (n input : ℕ) (records : List Record) (c : FileChange) → IsDropped c → IsLeft s n input records c
 dropped-left s n input records c (inl untouched) = inl untouched
 dropped-left s n input records c (inr closed) =
-    inr (record { given = []; rest = records; parts = refl; count = 0; held = []; is = refl; closed = closed })
+    inr (record {
+      given = [];
+      rest = records;
+      parts = refl;
+      colours = colours_by [];
+      count = 0;
+      held = [];
+      is = refl;
+      closed = closed;
+    })
 
 -- what each port ended with
 module _ {K : Type 0} {G : Sinks K} (p : Plan) (origin : ℕ) (ran : List (Egress K G))
@@ -100,26 +105,30 @@ module _ {K : Type 0} {G : Sinks K} (p : Plan) (origin : ℕ) (ran : List (Egres
       port-end (setup_of p origin plan) e.0 end (drained.each n plan e.0 at e.1) (ended.each n e.0 end e.1 is)
 
   -- one that was drained has come to the end of some first of the records
-  pub drained-stopped : {S : Type 0} {F : Sources S} (records : List Record) (stop : Stop) (rx : Receiver S F) → rx.input ≡ 0
-      → Took p records stop rx (journals_of ran) → AtPorts p origin (HasStopped 0 records) ran
-  drained-stopped records stop rx input took = record {
-    count = drained.count;
-    each = λ n plan e at is.
-        let s = setup_of p origin plan in
-        let done = drained.each n plan e at is in
-        let merge = took.merge n e.port.journal (map-there (λ (e : Egress K G). e.port.journal) ran n e is) in
-        let own : arrivals_of e.port.journal ≡ to_port n (admitted p 0 took.given) =
-        merge ∙ ap (λ i. to_port n (admitted p i took.given)) input in
-        record {
-          given = took.given;
-          rest = took.rest;
-          parts = took.parts;
-          halted = record {
-            serves = done.serves;
-            begins = ([], sym (append-nil e.port.journal ∙ done.journal ∙ ap (paced_journal s) own));
-          };
-        };
-  }
+  drained-stopped : MarksAgree → {S : Type 0} {F : Sources S} (records : List Record) (stop : Stop) (rx : Receiver S F)
+      (marks : List Mark) → rx.input ≡ 0 → TookBy p records stop rx marks (journals_of ran)
+      → AtPorts p origin (HasStopped 0 records) ran
+  drained-stopped law records stop rx marks input took =
+      let own = colours_by marks in
+      let taken = took.taken own (law p rx.origin rx.input took.given marks took.asked) in
+      record {
+        count = drained.count;
+        each = λ n plan e at is.
+            let s = setup_of p origin plan in
+            let done = drained.each n plan e at is in
+            let arrived : arrivals_of e.port.journal ≡ to_port n (admitted p own 0 took.given) =
+            merge-at ran taken n e is ∙ ap (λ i. to_port n (admitted p own i took.given)) input in
+            record {
+              given = took.given;
+              rest = took.rest;
+              parts = took.parts;
+              colours = own;
+              halted = record {
+                serves = done.serves;
+                begins = ([], sym (append-nil e.port.journal ∙ done.journal ∙ ap (paced_journal s) arrived));
+              };
+            };
+      }
 
 -- the names of the outputs of a profile
 abbrev names-of : Plan → List ℕ → List (List ℕ)
@@ -226,7 +235,15 @@ module _ {H In Out : Type 0} {F : Shelves H In Out} {G : Sinks Out} {p : Plan} {
         let e = there ran n (omega (arith, stopped.count, slice_get_within p.ports n plan at)) in
         let stop = stopped.each n plan e.0 at e.1 in
         left-halted F G (output_name prefix n) old mid new r.made.never_falls closed.never_falls (setup_of p origin plan) records e.0
-        stop.halted.serves (carry n e.0 e.1) (ended-at tells n plan e.0 at e.1) n 0 stop.given stop.rest stop.parts stop.halted.begins
+        stop.halted.serves (carry n e.0 e.1) (ended-at tells n plan e.0 at e.1) stop.colours n 0 stop.given stop.rest stop.parts stop.halted.begins
+
+    -- as where memory was refused after the ports were drained
+    pub drained-left : F.Tells old → MarksAgree → AtPorts p origin (λ n s e. IsDrained s e) ran → {S : Type 0} {I : Sources S}
+        (records : List Record) (stop : Stop) (rx : Receiver S I) (marks : List Mark) → rx.input ≡ 0
+        → TookBy p records stop rx marks (journals_of ran) → AllCarry G (bodies_of records) ran
+        → AreLeft p origin 0 records (λ n. change_of F (output_name prefix n) old new)
+    drained-left tells law drained records stop rx marks input took carry =
+        all-left tells records carry (drained-stopped p origin ran drained law records stop rx marks input took)
 
     -- each output was begun with an empty sink
     empty-sinks : F.Tells old → (n : ℕ) → n < length p.ports → IfSome (slice_get outs n) (λ out. IfSome out (λ k. G.contents k ≡ Some []))

@@ -7,3 +7,4 @@ pub mod Outputs
 pub mod Since
 pub mod Changes
 pub mod Turns
+pub mod Logs

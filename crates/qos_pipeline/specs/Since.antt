@@ -52,6 +52,7 @@ module _ {H In Out : Type 0} {G : Ghosts H In Out} {first old new : H} (tells : 
     given = begun.given;
     rest = begun.rest;
     parts = begun.parts;
+    colours = begun.colours;
     count = begun.count;
     held = begun.held;
     is = begun.is;

@@ -3,6 +3,7 @@ use Rattle.std.specs.Prelude.{◌≡◌, ◌⊎◌, ℕ, Bool, true, false, List
 use Rattle.qos_base.specs.declared.packet.Pkt.{Pkt}
 use Rattle.qos_base.specs.declared.packet.Departure.{Departure}
 use Rattle.qos_pcap.specs.Format.{Record}
+use Rattle.pkt_receive.specs.Colours.{Colours}
 use Rattle.pkt_receive.specs.Fate.{admitted, to_port}
 use Rattle.port_egress.specs.Output.{Target, output_text, IsWhole, IsCut}
 use Rattle.port_egress.specs.Run.{Setup, paced_journal, sends_by}
@@ -34,9 +35,10 @@ pub record IsBegun (s : Setup) (n input : ℕ) (records : List Record) (c : File
   pub given : List Record
   pub rest : List Record
   pub parts : records ≡ given ++ rest
+  pub colours : Colours
   pub count : ℕ
   pub held : List ℕ
-  pub is : held ≡ take count (output_text (target s records) (sends_by s (paced_journal s (to_port n (admitted s.profile input given)))))
+  pub is : held ≡ take count (output_text (target s records) (sends_by s (paced_journal s (to_port n (admitted s.profile colours input given)))))
   pub closed : IsClosed c held
 
 -- what is left of the output of a port where memory was refused

@@ -4,6 +4,7 @@ ghost use Rattle.std.specs.Prelude.{All, IsSome, IfSome, IfOk, OnOk, OnErr};
 ghost use Rattle.std.specs.Prelude.{Bool, Option};
 ghost use Rattle.qos_io.specs.declared.sink.PutFault.{PutFault};
 ghost use Rattle.qos_pcap.specs.Format.{Record};
+ghost use Rattle.pkt_receive.specs.Marks.{AreLegalLogs};
 ghost use Rattle.pkt_receive.specs.Receiver.{IsFresh, IsReading, StaysReceiver, ToCome};
 ghost use Rattle.port_egress.specs.declared.egress.Egress.{Egress};
 ghost use Rattle.port_egress.specs.Sender.{IsFine, unbegun};
@@ -17,9 +18,13 @@ ghost use Rattle.qos_pipeline.specs.PortEnds.{AreLeft, ArePortEnds, AreWritten, 
 ghost use Rattle.qos_pipeline.specs.Ports.{journals_of};
 ghost use Rattle.qos_pipeline.specs.Prepared.{HasRoom};
 
+use crate::logs::gather_one;
 use crate::ports::run_ports;
 use crate::prepare::{Prepared, Rooms, prepare};
-use pkt_receive::{Receiver, Slots};
+use meter_table::{MeterLog, MeterTable};
+use pkt_receive::laws::{logs_agree, marks_agree};
+use pkt_receive::{Marker, Receiver};
+use pkt_slots::Slots;
 use port_egress::Egress;
 use port_files::{close_all, create_all};
 use profile_plan::Profile;
@@ -29,22 +34,26 @@ use qos_pcap::Stop;
 use qos_words::laws::names_are_apart;
 use run_journal::PortEnd;
 use std::alloc::Global;
+use std::sync::Wait;
 
-/// What the ports of a run ended with, by number.
+/// What the ports and the meters of a run ended with, by number.
 #[derive(Drop)]
 pub struct RunEnd {
-    /// Their journals and numbers.
+    /// The journals and numbers of the ports.
     pub ports: Vec<PortEnd>,
+    /// The logs of the meters.
+    pub meters: Vec<MeterLog>,
     /// Whether the creation, a put or the closing of each output failed.
     pub write_fault: Vec<bool>,
 }
 
 /// Creates the output of each port of a profile, `PREFIX.n.pcap` for port n, runs an input through the ports into them,
-/// and closes them. The input has been opened, and nothing was received of it yet. All memory but that of journals and
-/// slots is taken before an output is created.
+/// and closes them. The input has been opened, and nothing was received of it yet. All memory but that of journals, slots,
+/// marks and the meters' logs is taken before an output is created.
 ///
-/// `NoMemory`: memory was refused, and the run is over; outputs that were created are closed all the same.
-pub fn run_outputs<H: Shelf>(
+/// `NoMemory`: memory was refused, and the run is over; outputs that were created are closed all the same. The call may wait.
+pub fn run_outputs<R: Wait, H: Shelf>(
+    rt: &R,
     alloc: Global,
     shelf: &mut H,
     p: &Profile,
@@ -57,7 +66,8 @@ pub fn run_outputs<H: Shelf>(
     ensures ports { IfOk result (λ r. ArePortEnds p.now input.old.origin r.ports.items) }
     ensures summed { IfOk result (λ r. IsSummed input.new (journals r.ports.items)) }
     ensures took { H.Tells shelf.old → IfOk result (λ r. (records : List Record) (stop : Stop) → ToCome H.In.Source input.old records stop
-        → Took p.now records stop input.new (journals r.ports.items)) }
+        → Took p.now records stop input.new (journals r.ports.items) r.meters.items) }
+    ensures meters { IfOk result (λ r. AreLegalLogs p.now r.meters.items) }
     ensures written { H.Tells shelf.old → IfOk result (λ r. (records : List Record) (stop : Stop) → ToCome H.In.Source input.old records stop
         → AreWritten p.now input.old.origin records (λ n. change_of H.Shelf (output_name prefix.now n) shelf.old shelf.new)
         r.ports.items r.write_fault.items) }
@@ -69,7 +79,13 @@ pub fn run_outputs<H: Shelf>(
     ensures input { OnOk result (StaysReceiver H.In.Source input.old input.new) }
 {
     names_are_apart();
+    marks_agree();
+    logs_agree();
     p.limits();
+    let (table, mut seats) = MeterTable::new(rt, alloc, p, 1)?;
+    let Some(seat) = seats.pop() else {
+        unreachable!()
+    };
     let Prepared {
         mut egresses,
         names,
@@ -79,10 +95,18 @@ pub fn run_outputs<H: Shelf>(
     let outs = create_outputs(shelf, &names, outs, &mut rooms.failed)?;
     let mut slots = Slots::new(alloc, p.pool.slot_bytes);
     begin_all(&mut egresses, outs);
-    let ran = run_ports(p, input, &mut egresses, &mut slots);
+    let mut marker = Marker::new(alloc, &table, seat, input.origin);
+    let ran = run_ports(rt, p, input, &mut egresses, &mut slots, &mut marker);
+    let Marker { seat, marks, .. } = marker;
     let ended = end_all(shelf, egresses, rooms);
     ran?;
-    ended
+    let meters = gather_one(rt, table, seat, marks, seats)?;
+    let (ports, write_fault) = ended?;
+    Ok(RunEnd {
+        ports,
+        meters,
+        write_fault,
+    })
 }
 
 // Creates the outputs of these names. Where memory was refused, those that were created are closed.
@@ -130,18 +154,18 @@ fn end_all<H: Shelf>(
     shelf: &mut H,
     egresses: Vec<Egress<'_, H::Out>>,
     mut rooms: Rooms<H::Out>,
-) -> Result<RunEnd, NoMemory>
+) -> Result<(Vec<PortEnd>, Vec<bool>), NoMemory>
     requires room { HasRoom (length egresses.items) rooms }
     requires named { All (λ out. IfSome out (λ k. IsSome (H.Out.name k))) (sinks_of egresses.items) }
-    ensures count { IfOk result (λ r. length r.write_fault.items ≡ length egresses.entry.items) }
-    ensures ended { IfOk result (λ r. HaveEnded egresses.entry.items r.ports.items) }
-    ensures journals { IfOk result (λ r. journals r.ports.items ≡ journals_of egresses.entry.items) }
+    ensures count { IfOk result (λ r. length r.1.items ≡ length egresses.entry.items) }
+    ensures ended { IfOk result (λ r. HaveEnded egresses.entry.items r.0.items) }
+    ensures journals { IfOk result (λ r. journals r.0.items ≡ journals_of egresses.entry.items) }
     ensures shut { H.Tells shelf.old → AllTell H.Out.Sink (sinks_of egresses.entry.items)
         → AreShut H.Out.Sink H.Shelf shelf.old shelf.new egresses.entry.items }
     ensures endings { H.Tells shelf.old → AllTell H.Out.Sink (sinks_of egresses.entry.items)
-        → IfOk result (λ r. AreEndings H.Out.Sink H.Shelf shelf.old shelf.new egresses.entry.items r.write_fault.items) }
+        → IfOk result (λ r. AreEndings H.Out.Sink H.Shelf shelf.old shelf.new egresses.entry.items r.1.items) }
     ensures sure { IfOk result (λ r. (n : ℕ) (e : Egress H.Out H.Out.Sink) → slice_get egresses.entry.items n ≡ Some e
-        → IsFine H.Out.Sink e.sender → slice_get r.write_fault.items n ≡ Some true → ⊥) }
+        → IsFine H.Out.Sink e.sender → slice_get r.1.items n ≡ Some true → ⊥) }
     ensures others { (names : List (List ℕ)) → AreNamed H.Out.Sink names (sinks_of egresses.entry.items)
         → (H.Tells shelf.old → AllTell H.Out.Sink (sinks_of egresses.entry.items)) → ChangesAmong H.Shelf names shelf.old shelf.new }
 {
@@ -153,10 +177,7 @@ fn end_all<H: Shelf>(
     );
     close_all(shelf, rooms.sinks, &mut rooms.failed)?;
     settle_all(&rooms.faults, &rooms.failed, &mut rooms.write_fault)?;
-    Ok(RunEnd {
-        ports: rooms.ends,
-        write_fault: rooms.write_fault,
-    })
+    Ok((rooms.ends, rooms.write_fault))
 }
 
 // Ends each port.

@@ -43,8 +43,9 @@ pub const FORMS: [Form; 4] = [
     },
 ];
 
-/// A record of a capture. Its body is the frame of 60 bytes with this code point, this last byte of its address and this
-/// last byte of its ethertype, cut or lengthened with zero bytes to `cap`; its total length is that of the body.
+/// A record of a capture. Its body is the frame of 60 bytes with this code point, this last byte of its address and
+/// this last byte of its ethertype, and a tag before that where it is tagged, cut or lengthened with zero bytes to
+/// `cap`; its total length is what follows the ethertype.
 #[derive(Clone, Copy, Debug)]
 pub struct Rec {
     pub seconds: u32,
@@ -54,6 +55,7 @@ pub struct Rec {
     pub dscp: u8,
     pub host: u8,
     pub kind: u8,
+    pub tagged: bool,
 }
 
 /// A frame of 60 bytes that was captured 100 seconds after the origin of the stamps.
@@ -65,6 +67,7 @@ pub const FIRST: Rec = Rec {
     dscp: 0,
     host: 2,
     kind: 0,
+    tagged: false,
 };
 
 /// The same frame, captured so many nanoseconds later.
@@ -161,11 +164,23 @@ fn put_header<R: Abort>(rt: &R, bytes: &mut Vec<u8>, form: Form) {
 // The first 60 bytes of a record's body.
 fn body(record: &Rec) -> [u8; 60] {
     let mut body = FRAME;
-    let total = record.cap.saturating_sub(14).min(65_535) as u16;
+    let header = if record.tagged { 18 } else { 14 };
+    let total = record.cap.saturating_sub(header).min(65_535) as u16;
     body[13] = record.kind;
     body[15] = record.dscp << 2;
     [body[16], body[17]] = total.to_be_bytes();
     body[33] = record.host;
+    if record.tagged {
+        return tagged(&body);
+    }
+    body
+}
+
+// A frame with a tag of VLAN 5 before its ethertype, of as many bytes.
+fn tagged(plain: &[u8; 60]) -> [u8; 60] {
+    let mut body = *plain;
+    body[12..16].copy_from_slice(&[0x81, 0, 0, 5]);
+    body[16..].copy_from_slice(&plain[12..56]);
     body
 }
 

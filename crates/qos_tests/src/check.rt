@@ -1,9 +1,12 @@
 //! Commands over files in memory, and what they come to.
-use crate::build::{Input, Rec, bytes_of, output};
+use crate::build::{HEADER, Input, Rec, bytes_of, output};
 use crate::profiles::{Edit, profile};
-use crate::seen::{End, Seen, report_of, run, same, wanted};
+use crate::seen::{EMPTY, End, Seen, gather, run, same, says, wanted};
+use crate::text::report_of;
 use qos_io::{MemShelf, WholeSink};
 use std::process::Abort;
+use std::sync::Wait;
+use std::thread::Threads;
 
 /// The words of the rows.
 pub const WORDS: &str = "run --profile p --out o a.pcap";
@@ -16,7 +19,19 @@ pub struct Row<'a> {
     pub input: Input<'a>,
     pub end: End,
     pub outputs: [&'a [Rec]; 2],
+    /// The text of the report; where it is not given, it follows from the numbers.
+    pub report: Option<&'a str>,
 }
+
+/// A capture of the header alone.
+pub const NONE: Row<'static> = Row {
+    note: "the header alone",
+    edits: &[],
+    input: Input::Raw(&HEADER, 0),
+    end: EMPTY,
+    outputs: [&[], &[]],
+    report: None,
+};
 
 /// A shelf with this profile and this input.
 pub fn shelf_over<R: AllocGlobal + Abort>(rt: &R, profile: Vec<u8>, input: Vec<u8>) -> MemShelf {
@@ -38,16 +53,28 @@ pub fn shelf_of<R: AllocGlobal + Abort>(rt: &R, row: &Row<'_>) -> MemShelf {
 }
 
 /// Runs the words of the rows on a shelf, and compares how that ends and the report.
-pub fn ends_so<R: Sync + AllocGlobal + Abort>(
+pub fn ends_with<R: Threads + Wait + Sync + AllocGlobal + Abort>(
+    rt: &R,
+    shelf: &mut MemShelf,
+    expected: &Seen,
+    report: &str,
+    note: &str,
+) {
+    let mut said = WholeSink::new(rt.alloc());
+    let found = gather(&run(rt, WORDS, shelf, &mut said));
+    same(rt, &found, expected, note);
+    says(rt, said.bytes(), report, note);
+}
+
+/// The same; the text of the report follows from the numbers.
+pub fn ends_so<R: Threads + Wait + Sync + AllocGlobal + Abort>(
     rt: &R,
     shelf: &mut MemShelf,
     expected: &Seen,
     note: &str,
 ) {
-    let mut said = WholeSink::new(rt.alloc());
-    same(rt, &run(rt, WORDS, shelf, &mut said), expected, note);
-    let report = report_of(expected.status);
-    same(rt, &said.bytes(), &report.as_slice(), note);
+    let report = report_of(rt, expected);
+    ends_with(rt, shelf, expected, report.as_str(), note);
 }
 
 /// The file of this name is what the program writes of these records.
@@ -79,8 +106,12 @@ pub fn wrote<R: AllocGlobal + Abort>(rt: &R, shelf: &MemShelf, row: &Row<'_>) {
 }
 
 /// Runs a row.
-pub fn check<R: Sync + AllocGlobal + Abort>(rt: &R, row: &Row<'_>) {
+pub fn check<R: Threads + Wait + Sync + AllocGlobal + Abort>(rt: &R, row: &Row<'_>) {
     let mut shelf = shelf_of(rt, row);
-    ends_so(rt, &mut shelf, &wanted(&row.end), row.note);
+    let expected = wanted(&row.end);
+    match row.report {
+        Some(report) => ends_with(rt, &mut shelf, &expected, report, row.note),
+        None => ends_so(rt, &mut shelf, &expected, row.note),
+    }
     wrote(rt, &shelf, row);
 }

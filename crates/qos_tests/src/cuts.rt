@@ -5,6 +5,8 @@ use crate::profiles::{DRAINS, profile};
 use crate::seen::{EMPTY, End, PortNumbers, wanted};
 use qos_pcap::{PcapFault, Stop};
 use std::process::Abort;
+use std::sync::Wait;
+use std::thread::Threads;
 
 // The port's numbers for so many of three frames at one moment: the first goes at its arrival, and what follows with
 // the first dequeue of the drain.
@@ -37,7 +39,7 @@ fn end_of(len: usize, whole: usize) -> End {
     }
 }
 
-fn check_cut<R: Sync + AllocGlobal + Abort>(rt: &R, len: usize, sent: &[Rec; 3]) {
+fn check_cut<R: Threads + Wait + Sync + AllocGlobal + Abort>(rt: &R, len: usize, sent: &[Rec; 3]) {
     let mut bytes = capture(rt, PLAIN, &[frame(0); 3]);
     bytes.truncate(len);
     let whole = (len.saturating_sub(24) / 76).min(3);

@@ -1,7 +1,7 @@
-//! Tests of whole commands over files in memory, and of the report, by the public calls of `qos_main`.
+//! Tests of whole commands over files in memory, with their reports, by the public calls of `qos_main`.
 //!
 //! They stand apart so that `qos_main` is proved once. The expected numbers are worked by hand, from the rules of
-//! pacing, of the token bucket and of the capture format, or by the rule that a test names.
+//! pacing, of the token bucket, of the meters and of the capture format, or by the rule that a test names.
 #![tactic(auto)]
 
 #[cfg(test)]
@@ -13,6 +13,8 @@ mod cuts;
 #[cfg(test)]
 mod many;
 #[cfg(test)]
+mod metered;
+#[cfg(test)]
 mod ports;
 #[cfg(test)]
 mod profiles;
@@ -21,6 +23,10 @@ mod refused;
 #[cfg(test)]
 mod report;
 #[cfg(test)]
+mod reports;
+#[cfg(test)]
 mod rows;
 #[cfg(test)]
 mod seen;
+#[cfg(test)]
+mod text;

@@ -1,6 +1,7 @@
 //! A run over 4,096 pipes.
 use crate::build::{FIRST, PLAIN, Rec, capture};
-use crate::check::{ends_so, holds, shelf_over};
+use crate::check::{ends_with, holds, shelf_over};
+use crate::reports;
 use crate::seen::{EMPTY, End, wanted};
 use std::process::Abort;
 
@@ -60,6 +61,12 @@ fn each_packet_goes_at_its_arrival(rt: HostRuntime) {
         first: [1000, 1000, 0, 0, 0, 1000, 1_248_750_124],
         ..EMPTY
     };
-    ends_so(&rt, &mut shelf, &wanted(&end), "4,096 pipes");
+    ends_with(
+        &rt,
+        &mut shelf,
+        &wanted(&end),
+        reports::MANY_PIPES,
+        "4,096 pipes",
+    );
     holds(&rt, &shelf, "o.0.pcap", &frames, "4,096 pipes");
 }

@@ -1,7 +1,7 @@
 //! Runs over two ports, as rows.
 use crate::build::{FIRST, Input, PLAIN, Rec};
-use crate::check::{Row, check};
-use crate::profiles::{BY_ADDRESS, CODE, CREDITS, SECOND_PORT};
+use crate::check::{NONE, Row, check};
+use crate::profiles::{BY_ADDRESS, CODE, CREDITS, SECOND_PORT, SECOND_RULE};
 use crate::seen::{EMPTY, End};
 
 const NEAR: Rec = FIRST;
@@ -24,7 +24,7 @@ const FAR_LATER: Rec = Rec {
 const ROWS: [Row<'static>; 4] = [
     Row {
         note: "by the prefix of the address",
-        edits: &[SECOND_PORT, BY_ADDRESS],
+        edits: &[SECOND_PORT, SECOND_RULE, BY_ADDRESS],
         input: Input::Capture(PLAIN, &[NEAR, FAR, FAR_LATER, NEAR_LATER], 0),
         end: End {
             count: 2,
@@ -33,10 +33,11 @@ const ROWS: [Row<'static>; 4] = [
             ..EMPTY
         },
         outputs: [&[NEAR, NEAR_LATER], &[FAR, FAR_LATER]],
+        ..NONE
     },
     Row {
         note: "a port without packets",
-        edits: &[SECOND_PORT, BY_ADDRESS],
+        edits: &[SECOND_PORT, SECOND_RULE, BY_ADDRESS],
         input: Input::Capture(PLAIN, &[FAR, FAR], 0),
         end: End {
             count: 2,
@@ -44,11 +45,12 @@ const ROWS: [Row<'static>; 4] = [
             ..EMPTY
         },
         outputs: [&[], &[FAR]],
+        ..NONE
     },
     // The other way round.
     Row {
         note: "a last port without packets",
-        edits: &[SECOND_PORT, BY_ADDRESS],
+        edits: &[SECOND_PORT, SECOND_RULE, BY_ADDRESS],
         input: Input::Capture(PLAIN, &[NEAR], 0),
         end: End {
             count: 2,
@@ -56,12 +58,14 @@ const ROWS: [Row<'static>; 4] = [
             ..EMPTY
         },
         outputs: [&[NEAR], &[]],
+        ..NONE
     },
     // The code of port 0's rule is of the first class, for which a pipe has no credits.
     Row {
         note: "by a code of the rule",
         edits: &[
             SECOND_PORT,
+            SECOND_RULE,
             (CODE, "code = fixed 0 0 green\ndst = 10.0.0.0/25"),
             (CREDITS, "tc 0 credits = 0\ntc 1-12 credits = 1000000"),
         ],
@@ -73,6 +77,7 @@ const ROWS: [Row<'static>; 4] = [
             ..EMPTY
         },
         outputs: [&[], &[FAR]],
+        ..NONE
     },
 ];
 

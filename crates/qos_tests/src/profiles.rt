@@ -47,6 +47,8 @@ pub const BUCKET_SIZE: usize = 19;
 
 pub const CREDITS: usize = 20;
 
+pub const RULE: usize = 22;
+
 pub const CODE: usize = 26;
 
 /// A line of the base, by its number, and what stands in its place: another line, or more than one.
@@ -58,7 +60,7 @@ pub const SLOW: Edit<'static> = (BUCKET_PERIOD, "tb period = 1000000000");
 /// A drain of 1,000,000 byte times.
 pub const DRAINS: Edit<'static> = (DRAIN, "drain ms = 1");
 
-/// A second port like the first, to which every packet goes that port 0 does not take.
+/// A second port like the first.
 pub const SECOND_PORT: Edit<'static> = (
     SUBPORT_PROFILE,
     "[port 1]
@@ -70,18 +72,24 @@ profile = 0
 pipes = 1
 queue sizes = 64 64 64 64 64 64 64 64 64 64 64 64 64
 pipe 0 = 0
-[rule 1]
+[subport profile 0]",
+);
+
+/// Every packet that port 0 does not take goes to port 1.
+pub const SECOND_RULE: Edit<'static> = (
+    RULE,
+    "[rule 1]
 port = 1
 subport = 0
 pipe = 0
 code = dscp
-[subport profile 0]",
+[rule 0]",
 );
 
 /// Port 0 takes the packets to 10.0.0.0 till 10.0.0.127.
 pub const BY_ADDRESS: Edit<'static> = (CODE, "code = dscp\ndst = 10.0.0.0/25");
 
-/// A meter, which the rule names.
+/// A single rate three color marker, which the rule names: 46 bytes are green, 46 more are yellow, and no others.
 pub const METERED: Edit<'static> = (
     CODE,
     "code = dscp

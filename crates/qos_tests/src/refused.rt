@@ -1,23 +1,37 @@
 //! Commands that are refused before anything is created.
 use crate::build::{HEADER, Input, bytes_of};
-use crate::check::{WORDS, ends_so, holds, holds_nothing, shelf_over};
-use crate::profiles::{Edit, METERED, PIPE, PIPES, QUEUES, profile, profile_of_size};
-use crate::seen::{EMPTY, nothing, run, run_words, same, wanted};
+use crate::check::{WORDS, ends_so, ends_with, holds, holds_nothing, shelf_over};
+use crate::profiles::{CODE, Edit, METERED, PIPE, PIPES, QUEUES, profile, profile_of_size};
+use crate::seen::{EMPTY, Seen, gather, nothing, run, run_words, same, says, wanted};
 use qos_io::{MemShelf, WholeShelf, WholeSink};
+use qos_main::Note;
+use qos_profile::{FaultKind, ProfileFault};
 use std::process::Abort;
+use std::sync::Wait;
+use std::thread::Threads;
 
-// Nothing is scheduled and nothing created, and the status is this one.
-fn is_refused<R: Sync + AllocGlobal + Abort>(rt: &R, shelf: &mut MemShelf, status: u8, note: &str) {
-    ends_so(rt, shelf, &nothing(status), note);
+const USAGE: &str = "usage\nstatus 2\n";
+
+const UNREAD: &str = "profile read fault\nstatus 4\n";
+
+// Nothing is scheduled and nothing created, and this is reported.
+fn is_refused<R: Threads + Wait + Sync + AllocGlobal + Abort>(
+    rt: &R,
+    shelf: &mut MemShelf,
+    expected: &Seen,
+    report: &str,
+    note: &str,
+) {
+    ends_with(rt, shelf, expected, report, note);
     holds_nothing(rt, shelf, note);
 }
 
-fn check_words<R: Sync + AllocGlobal + Abort>(rt: &R, words: &str) {
+fn check_words<R: Threads + Wait + Sync + AllocGlobal + Abort>(rt: &R, words: &str) {
     let mut shelf = shelf_over(rt, profile(rt, &[]), bytes_of(rt, Input::Raw(&HEADER, 0)));
     let mut said = WholeSink::new(rt.alloc());
-    let found = run(rt, words, &mut shelf, &mut said);
-    same(rt, &found, &nothing(2), words);
-    same(rt, &said.bytes(), &b"usage\nstatus 2\n".as_slice(), words);
+    let found = gather(&run(rt, words, &mut shelf, &mut said));
+    same(rt, &found, &nothing(2, Note::Nothing), words);
+    says(rt, said.bytes(), USAGE, words);
     holds_nothing(rt, &shelf, words);
 }
 
@@ -39,23 +53,40 @@ fn words_that_ask_for_nothing(rt: HostRuntime) {
 fn no_words(rt: HostRuntime) {
     let mut shelf = MemShelf::new(rt.alloc());
     let mut said = WholeSink::new(rt.alloc());
-    let found = run_words(&rt, &[], &mut shelf, &mut said);
-    same(&rt, &found, &nothing(2), "no words");
-    let report = b"usage\nstatus 2\n".as_slice();
-    same(&rt, &said.bytes(), &report, "no words");
+    let found = gather(&run_words(&rt, &[], &mut shelf, &mut said));
+    same(&rt, &found, &nothing(2, Note::Nothing), "no words");
+    says(&rt, said.bytes(), USAGE, "no words");
 }
 
-fn check_text<R: Sync + AllocGlobal + Abort>(rt: &R, text: Vec<u8>, status: u8, note: &str) {
+// A profile's fault.
+fn faulty(line: u32, kind: FaultKind, total: u64) -> Seen {
+    nothing(3, Note::Profile(ProfileFault { line, kind, total }))
+}
+
+fn check_text<R: Threads + Wait + Sync + AllocGlobal + Abort>(
+    rt: &R,
+    text: Vec<u8>,
+    expected: &Seen,
+    report: &str,
+    note: &str,
+) {
     let mut shelf = shelf_over(rt, text, bytes_of(rt, Input::Raw(&HEADER, 0)));
-    is_refused(rt, &mut shelf, status, note);
+    is_refused(rt, &mut shelf, expected, report, note);
 }
 
-// A profile that is none, or one that has a meter in use, and the status.
-const EDITED: [(&str, &[Edit<'static>], u8); 3] = [
+// A profile that is none: the line, the kind and the total of its fault, and the report.
+struct Refusal<'a> {
+    note: &'a str,
+    edits: &'a [Edit<'a>],
+    fault: (u32, FaultKind, u64),
+    report: &'a str,
+}
+
+const REFUSALS: [Refusal<'static>; 4] = [
     // 13 sizes of 65, of which the last is that of four queues, and 4,096 pipes: 4,259,840 places, above 4,194,304.
-    (
-        "too many places",
-        &[
+    Refusal {
+        note: "too many places",
+        edits: &[
             (PIPES, "pipes = 4096"),
             (
                 QUEUES,
@@ -63,24 +94,49 @@ const EDITED: [(&str, &[Edit<'static>], u8); 3] = [
             ),
             (PIPE, "pipe 0-4095 = 0"),
         ],
-        3,
-    ),
-    ("a meter in use", &[METERED], 9),
-    (
-        "a meter in use, and a fault",
-        &[METERED, (PIPES, "pipes = 0")],
-        3,
-    ),
+        fault: (0, FaultKind::TooLarge, 4_259_840),
+        report: "profile line 0 fault 9\nstatus 3\n",
+    },
+    Refusal {
+        note: "an unknown key",
+        edits: &[(2, "line rat = 5")],
+        fault: (2, FaultKind::UnknownKey, 0),
+        report: "profile line 2 fault 3\nstatus 3\n",
+    },
+    Refusal {
+        note: "a meter in use, and a fault",
+        edits: &[METERED, (PIPES, "pipes = 0")],
+        fault: (13, FaultKind::OutOfRange, 0),
+        report: "profile line 13 fault 5\nstatus 3\n",
+    },
+    Refusal {
+        note: "a meter that is not there",
+        edits: &[(CODE, "code = dscp\nmeter = q")],
+        fault: (27, FaultKind::NoSuchName, 0),
+        report: "profile line 27 fault 8\nstatus 3\n",
+    },
 ];
+
+fn check_refusal<R: Threads + Wait + Sync + AllocGlobal + Abort>(rt: &R, row: &Refusal<'_>) {
+    let (line, kind, total) = row.fault;
+    let expected = faulty(line, kind, total);
+    check_text(rt, profile(rt, row.edits), &expected, row.report, row.note);
+}
 
 #[test]
 fn profiles_are_refused(rt: HostRuntime) {
+    for row in &REFUSALS {
+        check_refusal(&rt, row);
+    }
+}
+
+#[test]
+fn a_profile_of_two_lines(rt: HostRuntime) {
     let text = b"[port 0]\nline rat = 5".to_vec(rt.alloc());
     let text = text.expect(&rt, "memory");
-    check_text(&rt, text, 3, "an unknown key");
-    for (note, edits, status) in EDITED {
-        check_text(&rt, profile(&rt, edits), status, note);
-    }
+    let expected = faulty(2, FaultKind::UnknownKey, 0);
+    let report = "profile line 2 fault 3\nstatus 3\n";
+    check_text(&rt, text, &expected, report, "two lines");
 }
 
 #[test]
@@ -94,29 +150,31 @@ fn the_longest_profile(rt: HostRuntime) {
 #[test]
 fn a_profile_that_is_too_long(rt: HostRuntime) {
     let text = profile_of_size(&rt, 1_048_577);
-    check_text(&rt, text, 3, "1,048,577 bytes");
+    let expected = faulty(0, FaultKind::TooLarge, 1_048_577);
+    let report = "profile line 0 fault 9\nstatus 3\n";
+    check_text(&rt, text, &expected, report, "1,048,577 bytes");
 }
 
 // A missing profile ends the command, whether the capture is there or not.
 #[test]
 fn profiles_that_are_missing(rt: HostRuntime) {
+    let expected = nothing(4, Note::ProfileRead);
     let mut shelf = MemShelf::new(rt.alloc());
-    is_refused(&rt, &mut shelf, 4, "no profile and no capture");
+    is_refused(&rt, &mut shelf, &expected, UNREAD, "neither is there");
     let input = bytes_of(&rt, Input::Raw(&HEADER, 0));
     shelf.put_file("a.pcap", input).expect(&rt, "memory");
-    is_refused(&rt, &mut shelf, 4, "no profile");
+    is_refused(&rt, &mut shelf, &expected, UNREAD, "no profile");
 }
 
 // A profile that is refused ends the command before a missing capture is noticed.
 #[test]
-fn captures_that_are_missing(rt: HostRuntime) {
+fn a_capture_that_is_missing(rt: HostRuntime) {
     let mut shelf = MemShelf::new(rt.alloc());
-    let text = profile(&rt, &[METERED]);
-    shelf.put_file("p", text).expect(&rt, "memory");
-    is_refused(&rt, &mut shelf, 9, "a meter and no capture");
     let text = profile(&rt, &[(PIPES, "pipes = 0")]);
     shelf.put_file("p", text).expect(&rt, "memory");
-    is_refused(&rt, &mut shelf, 3, "a fault and no capture");
+    let expected = faulty(13, FaultKind::OutOfRange, 0);
+    let report = "profile line 13 fault 5\nstatus 3\n";
+    is_refused(&rt, &mut shelf, &expected, report, "no capture");
 }
 
 // A name of no file opens as an empty one where it is sure to read, and an empty text is no profile.
@@ -124,7 +182,10 @@ fn captures_that_are_missing(rt: HostRuntime) {
 fn a_profile_that_is_empty(rt: HostRuntime) {
     let mut shelf = WholeShelf::new(rt.alloc());
     let mut said = WholeSink::new(rt.alloc());
-    let found = run(&rt, WORDS, &mut shelf, &mut said);
-    same(&rt, &found, &nothing(3), "an empty profile");
+    let found = gather(&run(&rt, WORDS, &mut shelf, &mut said));
+    let expected = faulty(0, FaultKind::Missing, 0);
+    same(&rt, &found, &expected, "an empty profile");
+    let report = "profile line 0 fault 7\nstatus 3\n";
+    says(&rt, said.bytes(), report, "an empty profile");
     same(&rt, &shelf.file("o.0.pcap"), &None, "an empty profile");
 }

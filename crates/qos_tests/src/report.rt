@@ -1,11 +1,16 @@
-//! The report alone.
+//! Commands whose report is refused.
 ghost use Rattle.std.specs.Prelude.{None};
 
-use crate::seen::same;
+use crate::build::{FIRST, Input, PLAIN};
+use crate::check::{NONE, Row, WORDS, shelf_of, wrote};
+use crate::profiles::DRAINS;
+use crate::seen::{EMPTY, End, gather, run, same, says, wanted};
 use qos_io::{PutFault, Sink};
-use qos_main::Status;
-use qos_main::report::report;
+use qos_main::put_memory;
+use qos_pcap::{PcapFault, Stop};
 use std::process::Abort;
+use std::sync::Wait;
+use std::thread::Threads;
 
 // A sink that keeps what it is given, or refuses it.
 #[derive(Drop)]
@@ -38,50 +43,84 @@ impl Sink for Said {
     }
 }
 
-// How a run ended, what its report's put is refused for, the text of the report, and how the program ends.
-const ROWS: [(Status, Option<PutFault>, &str, Status); 8] = [
-    (Status::Fine, None, "status 0\n", Status::Fine),
-    (Status::Usage, None, "usage\nstatus 2\n", Status::Usage),
-    (Status::Profile, None, "status 3\n", Status::Profile),
-    (Status::Unbuilt, None, "status 9\n", Status::Unbuilt),
-    (Status::Memory, None, "status 7\n", Status::Memory),
-    (Status::Fine, Some(PutFault::Failed), "", Status::Write),
-    (Status::Capture, Some(PutFault::Failed), "", Status::Capture),
-    (Status::Usage, Some(PutFault::NoMemory), "", Status::Memory),
-];
-
-fn check<R: AllocGlobal + Abort>(rt: &R, row: (Status, Option<PutFault>, &str, Status)) {
-    let (status, refuses, text, answer) = row;
-    let mut said = Said {
+fn new_said<R: AllocGlobal>(rt: &R, refuses: Option<PutFault>) -> Said {
+    Said {
         text: Vec::new(rt.alloc()),
         refuses,
         puts: 0,
         faults: 0,
+    }
+}
+
+// Two frames, of which one is left.
+const FINE: Row<'static> = Row {
+    input: Input::Capture(PLAIN, &[FIRST; 2], 0),
+    end: End {
+        first: [2, 1, 1, 0, 0, 1, 84],
+        ..EMPTY
+    },
+    outputs: [&[FIRST], &[]],
+    ..NONE
+};
+
+// The second of two frames is cut.
+const TORN: Row<'static> = Row {
+    edits: &[DRAINS],
+    input: Input::Capture(PLAIN, &[FIRST; 2], 1),
+    end: End {
+        status: 6,
+        stopped: Stop::Fault(PcapFault::CutRecord(100)),
+        first: [1, 1, 0, 0, 0, 1, 84],
+        ..EMPTY
+    },
+    outputs: [&[FIRST], &[]],
+    ..NONE
+};
+
+// A run, what its report is refused for, and its status then: a failure changes that of a good run alone, and want of
+// memory each.
+const ROWS: [(&str, Row<'static>, PutFault, u8); 4] = [
+    ("fails", FINE, PutFault::Failed, 5),
+    ("fails behind a fault", TORN, PutFault::Failed, 6),
+    ("no memory", FINE, PutFault::NoMemory, 7),
+    ("no memory behind a fault", TORN, PutFault::NoMemory, 7),
+];
+
+// The report is put at once, and the run stays what it was.
+fn check<R: Threads + Wait + Sync + AllocGlobal + Abort>(
+    rt: &R,
+    row: &(&str, Row<'_>, PutFault, u8),
+) {
+    let (note, row, fault, status) = row;
+    let mut shelf = shelf_of(rt, row);
+    let mut said = new_said(rt, Some(*fault));
+    let found = gather(&run(rt, WORDS, &mut shelf, &mut said));
+    let end = End {
+        status: *status,
+        ..row.end
     };
-    same(rt, &report(status, &mut said), &answer, "the answer");
-    same(rt, &said.text.as_slice(), &text.as_bytes(), "the text");
-    same(rt, &said.puts, &1, "it is put at once");
+    same(rt, &found, &wanted(&end), note);
+    same(rt, &said.puts, &1, note);
+    wrote(rt, &shelf, row);
 }
 
 #[test]
-fn a_report_is_put_at_once(rt: HostRuntime) {
-    for row in ROWS {
+fn reports_are_refused(rt: HostRuntime) {
+    for row in &ROWS {
         check(&rt, row);
     }
 }
 
+// Where there is no memory for the words, the program reports just that.
 #[test]
-fn statuses_have_numbers(rt: HostRuntime) {
-    for (status, number) in [
-        (Status::Fine, 0),
-        (Status::Usage, 2),
-        (Status::Profile, 3),
-        (Status::Read, 4),
-        (Status::Write, 5),
-        (Status::Capture, 6),
-        (Status::Memory, 7),
-        (Status::Unbuilt, 9),
-    ] {
-        same(&rt, &status.number(), &number, "a number");
-    }
+fn want_of_memory_is_reported(rt: HostRuntime) {
+    let mut said = new_said(&rt, None);
+    let status = put_memory(&mut said).number();
+    same(&rt, &status, &7, "its status");
+    says(
+        &rt,
+        said.text.as_slice(),
+        "memory\nstatus 7\n",
+        "its report",
+    );
 }

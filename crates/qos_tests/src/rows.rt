@@ -1,20 +1,10 @@
 //! Runs over one port, as rows.
-use crate::build::{FIRST, FORMS, HEADER, Input, PLAIN, Rec, capture, frame};
-use crate::check::{Row, WORDS, check, ends_so, holds, shelf_of, shelf_over, wrote};
+use crate::build::{FIRST, FORMS, Input, PLAIN, Rec, capture, frame};
+use crate::check::{NONE, Row, check, ends_so, holds, shelf_over};
 use crate::profiles::{BUCKET_SIZE, CODE, DRAINS, Edit, QUEUES, SLOW, profile};
-use crate::seen::{EMPTY, End, run, same, wanted};
-use qos_io::MemSink;
+use crate::reports;
+use crate::seen::{EMPTY, End, wanted};
 use qos_pcap::{PcapFault, Stop};
-use std::process::Abort;
-
-// A capture of the header alone.
-const NONE: Row<'static> = Row {
-    note: "the header alone",
-    edits: &[],
-    input: Input::Raw(&HEADER, 0),
-    end: EMPTY,
-    outputs: [&[], &[]],
-};
 
 // A record of 60 bytes with microseconds, big-endian, 1.5 seconds after the origin of the stamps.
 const BIG_MICROSECONDS: [u8; 40] = [
@@ -88,6 +78,7 @@ const SENT: [Row<'static>; 3] = [
             }],
             &[],
         ],
+        report: Some(reports::ONE_FRAME),
         ..NONE
     },
     // A stamp before the first one's: its moment is 0, where port time is 84 already, so it goes in the drain.
@@ -110,6 +101,7 @@ const SENT: [Row<'static>; 3] = [
             ..EMPTY
         },
         outputs: [&[FIRST, Rec { nanos: 84, ..FIRST }], &[]],
+        ..NONE
     },
 ];
 
@@ -126,6 +118,7 @@ const BUCKETS: [Row<'static>; 5] = [
             ..EMPTY
         },
         outputs: [&ELEVEN, &[]],
+        report: Some(reports::ELEVEN_OF_TWELVE),
         ..NONE
     },
     Row {
@@ -266,6 +259,7 @@ const LOST: [Row<'static>; 4] = [
             ..EMPTY
         },
         outputs: [&[FIRST], &[]],
+        report: Some(reports::FULL_QUEUE),
         ..NONE
     },
     Row {
@@ -299,6 +293,8 @@ const STOPPED: [Row<'static>; 5] = [
             ..TORN
         },
         outputs: [&[FIRST, Rec { nanos: 84, ..FIRST }], &[]],
+        report: Some(reports::CUT_RECORD),
+        ..NONE
     },
     Row {
         note: "23 bytes",
@@ -307,6 +303,7 @@ const STOPPED: [Row<'static>; 5] = [
             stopped: Stop::Fault(PcapFault::CutHeader(23)),
             ..TORN
         },
+        report: Some(reports::CUT_HEADER),
         ..NONE
     },
     Row {
@@ -316,6 +313,7 @@ const STOPPED: [Row<'static>; 5] = [
             stopped: Stop::Fault(PcapFault::BadMagic),
             ..TORN
         },
+        report: Some(reports::ANOTHER_MAGIC),
         ..NONE
     },
     Row {
@@ -325,6 +323,7 @@ const STOPPED: [Row<'static>; 5] = [
             stopped: Stop::Fault(PcapFault::BadLink),
             ..TORN
         },
+        report: Some(reports::ANOTHER_LINK),
         ..NONE
     },
     Row {
@@ -335,6 +334,7 @@ const STOPPED: [Row<'static>; 5] = [
             stopped: Stop::NotOpened,
             ..EMPTY
         },
+        report: Some(reports::NOT_OPENED),
         ..NONE
     },
 ];
@@ -381,21 +381,4 @@ fn each_form_gives_the_same_output(rt: HostRuntime) {
         ends_so(&rt, &mut shelf, &expected, "the four magic numbers");
         holds(&rt, &shelf, "o.0.pcap", &records, "the four magic numbers");
     }
-}
-
-// The report is put at once, and fails: only the status of a good run becomes another.
-fn check_unreported<R: Sync + AllocGlobal + Abort>(rt: &R, row: &Row<'_>, status: u8) {
-    let mut shelf = shelf_of(rt, row);
-    let fails = vec![in rt.alloc(); 0u32].expect(rt, "memory");
-    let mut said = MemSink::new(rt.alloc(), fails);
-    let found = run(rt, WORDS, &mut shelf, &mut said);
-    same(rt, &found, &wanted(&End { status, ..row.end }), row.note);
-    same(rt, &said.bytes(), &[].as_slice(), row.note);
-    wrote(rt, &shelf, row);
-}
-
-#[test]
-fn a_report_that_fails(rt: HostRuntime) {
-    check_unreported(&rt, &SENT[1], 5);
-    check_unreported(&rt, &STOPPED[0], 6);
 }

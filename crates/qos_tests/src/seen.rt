@@ -1,20 +1,27 @@
 //! What a command ended with, in one value that tests compare.
 use crate::build::words_of;
+use qos_base::Colour;
 use qos_io::{OpenGate, Shelf, Sink};
-use qos_main::{Ended, InputEnd, PortEnd, qos_top};
+use qos_main::{Ended, InputEnd, MeterLog, Note, PortEnd, qos_top};
 use qos_pcap::Stop;
 use std::fmt::Debug;
 use std::process::Abort;
+use std::sync::Wait;
+use std::thread::Threads;
 
 /// The numbers of a port: arrived, sent, left, turned away, not put, dequeues and time.
 pub type PortNumbers = [u64; 7];
 
-/// What a command ended with. Of ports there are two at most; what stands for one that is not there is zero.
+/// How many packets a meter marked green, yellow and red.
+pub type MeterNumbers = [u64; 3];
+
+/// What a command ended with. Of ports and meters there are two at most; what stands for one that is not there is zero.
 #[derive(Clone, Copy, Debug, PartialEq, Eq)]
 pub struct Seen {
     pub status: u8,
-    /// How many ports, inputs and write faults are listed.
-    pub lists: [usize; 3],
+    pub note: Note,
+    /// How many ports, inputs, write faults and meters are listed.
+    pub lists: [usize; 4],
     pub write_faults: [bool; 2],
     /// How many entries each journal has.
     pub entries: [usize; 2],
@@ -24,6 +31,7 @@ pub struct Seen {
     pub reasons: [u64; 7],
     pub unslotted: usize,
     pub stopped: Stop,
+    pub meters: [MeterNumbers; 2],
 }
 
 /// What a run comes to; the other numbers follow.
@@ -38,9 +46,13 @@ pub struct End {
     pub write_faults: [bool; 2],
     /// How many records are unparsed, unmatched, oversize and too long.
     pub lost: [u64; 4],
+    pub policed: u64,
+    /// How many meters the profile has, at most two.
+    pub meters: usize,
+    pub marked: [MeterNumbers; 2],
 }
 
-/// One port, and no record.
+/// One port, no meter and no record.
 pub const EMPTY: End = End {
     status: 0,
     stopped: Stop::End,
@@ -49,13 +61,17 @@ pub const EMPTY: End = End {
     second: [0; 7],
     write_faults: [false; 2],
     lost: [0; 4],
+    policed: 0,
+    meters: 0,
+    marked: [[0; 3]; 2],
 };
 
 /// Nothing was scheduled.
-pub fn nothing(status: u8) -> Seen {
+pub fn nothing(status: u8, note: Note) -> Seen {
     Seen {
         status,
-        lists: [0; 3],
+        note,
+        lists: [0; 4],
         write_faults: [false; 2],
         entries: [0; 2],
         ports: [[0; 7]; 2],
@@ -63,6 +79,7 @@ pub fn nothing(status: u8) -> Seen {
         reasons: [0; 7],
         unslotted: 0,
         stopped: Stop::NotOpened,
+        meters: [[0; 3]; 2],
     }
 }
 
@@ -80,25 +97,39 @@ fn sums(end: &End) -> PortNumbers {
     sums
 }
 
+// How many records were read: those that arrived, and those that were lost before.
+fn read(end: &End, arrived: u64) -> u64 {
+    let mut read = arrived.saturating_add(end.policed);
+    for lost in end.lost {
+        read = read.saturating_add(lost);
+    }
+    read
+}
+
 /// What is seen where a run comes to this.
 pub fn wanted(end: &End) -> Seen {
     let [arrived, sent, left, tailfull, unwritten, _, _] = sums(end);
     let [unparsed, unmatched, oversize, too_long] = end.lost;
-    let read = arrived
-        .saturating_add(unparsed)
-        .saturating_add(unmatched)
-        .saturating_add(oversize)
-        .saturating_add(too_long);
     Seen {
         status: end.status,
-        lists: [end.count, 1, end.count],
+        note: Note::Nothing,
+        lists: [end.count, 1, end.count, end.meters],
         write_faults: end.write_faults,
         entries: [entries(&end.first), entries(&end.second)],
         ports: [end.first, end.second],
-        input: [read, sent, left, unwritten],
-        reasons: [unparsed, unmatched, oversize, too_long, 0, 0, tailfull],
+        input: [read(end, arrived), sent, left, unwritten],
+        reasons: [
+            unparsed,
+            unmatched,
+            oversize,
+            too_long,
+            0,
+            end.policed,
+            tailfull,
+        ],
         unslotted: 0,
         stopped: end.stopped,
+        meters: end.marked,
     }
 }
 
@@ -126,6 +157,24 @@ fn see_ports(seen: &mut Seen, ports: &[PortEnd]) {
     }
 }
 
+fn marked(log: &MeterLog) -> MeterNumbers {
+    let (mut green, mut yellow, mut red) = (0u64, 0u64, 0u64);
+    for mark in log.marks.as_slice() {
+        match mark.colour {
+            Colour::Green => green = green.saturating_add(1),
+            Colour::Yellow => yellow = yellow.saturating_add(1),
+            Colour::Red => red = red.saturating_add(1),
+        }
+    }
+    [green, yellow, red]
+}
+
+fn see_meters(seen: &mut Seen, logs: &[MeterLog]) {
+    for (numbers, log) in seen.meters.iter_mut().zip(logs) {
+        *numbers = marked(log);
+    }
+}
+
 fn see_input(seen: &mut Seen, input: &InputEnd) {
     seen.input = [input.read, input.sent, input.left, input.unwritten];
     seen.reasons = input.reasons;
@@ -136,11 +185,12 @@ fn see_input(seen: &mut Seen, input: &InputEnd) {
 /// What is seen of an end.
 pub fn gather(ended: &Ended) -> Seen {
     let (ports, inputs) = (ended.ports.as_slice(), ended.inputs.as_slice());
-    let faults = ended.write_fault.as_slice();
-    let mut seen = nothing(ended.status);
-    seen.lists = [ports.len(), inputs.len(), faults.len()];
+    let (faults, logs) = (ended.write_fault.as_slice(), ended.meters.as_slice());
+    let mut seen = nothing(ended.status, ended.note);
+    seen.lists = [ports.len(), inputs.len(), faults.len(), logs.len()];
     seen.write_faults = [faults.first() == Some(&true), faults.get(1) == Some(&true)];
     see_ports(&mut seen, ports);
+    see_meters(&mut seen, logs);
     if let [input] = inputs {
         see_input(&mut seen, input);
     }
@@ -148,30 +198,28 @@ pub fn gather(ended: &Ended) -> Seen {
 }
 
 /// Runs a command; the report goes to `said`.
-pub fn run<R: Sync + AllocGlobal + Abort, H: Shelf, K: Sink>(
+pub fn run<R: Threads + Wait + Sync + AllocGlobal + Abort, H: Shelf, K: Sink>(
     rt: &R,
     line: &str,
     shelf: &mut H,
     said: &mut K,
-) -> Seen {
+) -> Ended {
     run_words(rt, &words_of(rt, line), shelf, said)
 }
 
 /// Runs the command of these words.
-pub fn run_words<R: Sync + AllocGlobal + Abort, H: Shelf, K: Sink>(
+pub fn run_words<R: Threads + Wait + Sync + AllocGlobal + Abort, H: Shelf, K: Sink>(
     rt: &R,
     words: &[String],
     shelf: &mut H,
     said: &mut K,
-) -> Seen {
-    gather(&qos_top(rt, rt.alloc(), words, shelf, said, &OpenGate))
+) -> Ended {
+    qos_top(rt, rt.alloc(), words, shelf, said, &OpenGate)
 }
 
-/// The report of a status, which is one digit.
-pub fn report_of(status: u8) -> [u8; 9] {
-    let mut line = *b"status 0\n";
-    line[7] = b'0'.saturating_add(status);
-    line
+/// A report has this text.
+pub fn says(rt: &impl Abort, said: &[u8], text: &str, note: &str) {
+    same(rt, &str::from_utf8(said), &Ok(text), note);
 }
 
 /// Two values are the same.

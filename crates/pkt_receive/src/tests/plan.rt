@@ -1,10 +1,10 @@
 //! A profile of two ports.
-ghost use Rattle.std.specs.Prelude.{◌≡◌, [], ◌∷◌, replicate, false};
+ghost use Rattle.std.specs.Prelude.{◌≡◌, [], ◌∷◌, replicate, false, true};
 
 use code_table::{CodeTable, Entry};
 use profile_plan::{
-    CLASSES, CodeChoice, PipeChoice, PipeKind, PoolPlan, PortPlan, Profile, Proto, RulePlan,
-    Shaping, Span, SubportPlan, VlanTest, Whole,
+    CLASSES, CodeChoice, MeterKind, MeterPlan, MeterRate, PipeChoice, PipeKind, PoolPlan, PortPlan,
+    Profile, Proto, RulePlan, Shaping, Span, SubportPlan, VlanTest, Whole,
 };
 use qos_base::{Colour, Sequence};
 use std::alloc::AllocGlobal;
@@ -39,7 +39,7 @@ const ENTRY: Entry = Entry {
 
 // IPv4 of any other input.
 const OTHERS: RulePlan = RulePlan {
-    number: 1,
+    number: 2,
     input: None,
     vlan: VlanTest::Any,
     proto: Some(Proto::Ipv4),
@@ -60,7 +60,15 @@ const FIRST: RulePlan = RulePlan {
     ..OTHERS
 };
 
-const RULES: [RulePlan; 2] = [FIRST, OTHERS];
+// IPv4 of input 2.
+const METERED: RulePlan = RulePlan {
+    number: 1,
+    input: Some(2),
+    meter: Some(0),
+    ..OTHERS
+};
+
+const RULES: [RulePlan; 3] = [FIRST, METERED, OTHERS];
 
 fn port<R: AllocGlobal + Abort>(rt: &R, mtu: u32) -> PortPlan
     ensures { result ≡ record {
@@ -90,8 +98,37 @@ fn port<R: AllocGlobal + Abort>(rt: &R, mtu: u32) -> PortPlan
     }
 }
 
+// The meter of RFC 2697 with 46 bytes in each bucket, which earns none; red packets are dropped.
+fn meter<R: AllocGlobal + Abort>(rt: &R) -> MeterPlan
+    ensures { result ≡ record {
+      name = 109 ∷ [];
+      kind = MeterKind.SrTcm;
+      aware = false;
+      cir = MeterRate.Periods 0 1;
+      other = MeterRate.Periods 0 1;
+      cbs = 46;
+      other_size = 46;
+      drops = false ∷ false ∷ true ∷ [];
+    } }
+{
+    let none = MeterRate::Periods {
+        bytes: 0,
+        period: 1,
+    };
+    MeterPlan {
+        name: Sequence::of(vec![in rt.alloc(); b'm'].expect(rt, "memory")),
+        kind: MeterKind::SrTcm,
+        aware: false,
+        cir: none,
+        other: none,
+        cbs: 46,
+        other_size: 46,
+        drops: [false, false, true],
+    }
+}
+
 /// Input 0 goes to port 0, which sends frames of 1,522 bytes, and every other input to port 1, which sends those of
-/// 1,523. Of a frame that is not IPv4 it says nothing.
+/// 1,523; input 2 has a meter. Of a frame that is not IPv4 it says nothing.
 pub fn two_ports<R: AllocGlobal + Abort>(rt: &R) -> Profile {
     let ports = vec![in rt.alloc(); port(rt, 1_522), port(rt, 1_523)];
     Profile {
@@ -100,7 +137,7 @@ pub fn two_ports<R: AllocGlobal + Abort>(rt: &R) -> Profile {
         subport_kinds: Sequence::of(vec![in rt.alloc(); (0, SHAPING)].expect(rt, "memory")),
         pipe_kinds: Sequence::of(vec![in rt.alloc(); PIPE].expect(rt, "memory")),
         codes: CodeTable::filled(ENTRY),
-        meters: Sequence::of(Vec::new(rt.alloc())),
+        meters: Sequence::of(vec![in rt.alloc(); meter(rt)].expect(rt, "memory")),
         rules: Sequence::of(RULES.to_vec(rt.alloc()).expect(rt, "memory")),
         skipped: Sequence::of(Vec::new(rt.alloc())),
     }

@@ -1,13 +1,11 @@
-use Rattle.std.proofs.Common.{◌≡◌, ◌∷◌, [], ℕ, List, take, sym, ap, subst, ◌∙◌, arith}
+use Rattle.std.proofs.Common.{◌≡◌, [], take, refl, sym, ap, subst, arith}
 use Rattle.qos_base.specs.declared.packet.Pkt.{Pkt}
-use Rattle.qos_pcap.specs.Heads.{recorded}
-use Rattle.pkt_receive.specs.Fate.{IsPlaced, fate_of, packet_if}
-use Rattle.pkt_receive.specs.declared.fate.Fate.{Fate}
-use Rattle.pkt_receive.specs.declared.fate.Fate.TheVariants.{Admitted}
+use Rattle.pkt_slots.specs.Placed.{IsPlaced}
+use Rattle.pkt_receive.proofs.Sorted.{fate-of-bytes, received-lost, received-packet}
 use Rattle.pkt_receive.proofs.receive.sort.Goals as goal
 
 pub invariant_of-result : goal.invariant_of-result
-invariant_of-result c =
+invariant_of-result g c =
     let is = c.packet.ensures [] in
     let cap : c.packet.result.cap ≡ c.args.head.now.cap = ap (λ (p : Pkt). p.cap) is in
     let wire : c.packet.result.wire ≡ c.args.head.now.wire = ap (λ (p : Pkt). p.wire) is in
@@ -17,20 +15,24 @@ invariant_of-result c =
       limit = omega (arith, cap, c.requires.limit);
     }
 
+pub returns-in-Lost-clause-received : goal.returns-in-Lost-clause-received
+returns-in-Lost-clause-received g c =
+    let fate = c.in_ok-reason.field-0 in
+    let of = c.in_ok-reason.ensures.value in
+    let is = fate-of-bytes _ _ _ c.args.head.now _ _ of.0 fate c.deref.ensures.value of.2 in
+    (of.0, of.1, received-lost _ _ _ _ _ of.0 fate c.in-Lost.reason c.in-Lost.is is)
+
 pub returns-in-Admitted-clause-received : goal.returns-in-Admitted-clause-received
-returns-in-Admitted-clause-received c =
+returns-in-Admitted-clause-received g c =
     let head = c.args.head.now in
-    let body : List ℕ = take head.cap c.args.bytes.items in
-    let fate_with : List ℕ → Fate = λ b. fate_of c.args.p.now c.args.input (recorded head b) in
-    let place : fate_with body ≡ Admitted c.in-Admitted.place =
-    ap (λ (bytes : List ℕ). fate_with (take head.cap bytes)) (sym c.deref.ensures.value) ∙ sym c.of.ensures.value ∙ c.in-Admitted.is in
-    let is = c.packet.ensures body in
-    let cap : c.packet.result.cap ≡ head.cap = ap (λ (p : Pkt). p.cap) is in (
-      ap (packet_if c.args.input head.index (recorded head body)) place ∙ ap (λ (p : Pkt). p ∷ []) (sym is),
-      ap (λ n. take n c.args.bytes.items) cap,
-    )
+    let fate = c.in_ok-reason.field-0 in
+    let of = c.in_ok-reason.ensures.value in
+    let is = fate-of-bytes _ _ _ head _ _ of.0 fate c.deref.ensures.value of.2 in
+    let packet = c.packet.ensures (take head.cap c.args.bytes.items) in
+    let to = c.in-Admitted in
+    (of.0, of.1, received-packet _ _ _ _ _ of.0 fate to.place to.colour _ to.is packet refl is)
 
 pub returns-in-Admitted-clause-place : goal.returns-in-Admitted-clause-place
-returns-in-Admitted-clause-place c =
+returns-in-Admitted-clause-place g c =
     subst (λ (packet : Pkt). IsPlaced c.args.p.now packet) (sym (c.packet.ensures c.deref.result.now))
-    (c.of.ensures.place c.in-Admitted.place c.in-Admitted.is c.args.head.now.index)
+    (c.in_ok-reason.ensures.place c.in-Admitted.place c.in-Admitted.colour c.in-Admitted.is c.args.head.now.index)

@@ -1,4 +1,5 @@
 use Rattle.std.proofs.Common.{◌≡◌}
+use Rattle.pkt_receive.specs.Marks.{IsMarking}
 use Rattle.pkt_receive.specs.Receiver.{IsReading}
 use Rattle.pkt_receive.proofs.tests.receive_rows.Given as goal
 
@@ -6,4 +7,5 @@ abbrev pub invariant-loop-index : goal.invariant-loop-index
 invariant-loop-index g l = record {
   reading : IsReading g.S.Source l.rx;
   slots : l.slots.slot_bytes ≡ l.p.pool.slot_bytes;
+  marking : IsMarking l.p l.rx.read l.marker;
 }

@@ -7,5 +7,8 @@ use Rattle.qos_main.proofs.top.run_words.Goals as goal
 
 pub returns-in-Some-clause-ends : goal.returns-in-Some-clause-ends
 returns-in-Some-clause-ends g c command asks number =
-    subst (λ (a : Asked). CommandEnds g.H.Shelf a c.args.shelf.now c.run_command.new.shelf c.run_command.result.1 (numbered c.run_command.result.0 number))
-    (ap (λ (o : Option Asked). unwrap_or o command) (sym c.in-Some.is ∙ c.read_words.ensures.exact ∙ asks)) (c.run_command.ensures.ends number)
+    let done = c.run_command.result in
+    subst (λ (a : Asked). CommandEnds g.H.Shelf a c.args.shelf.now c.run_command.new.shelf done.profile done.status
+    (numbered done.ended number))
+    (ap (λ (o : Option Asked). unwrap_or o command) (sym c.in-Some.is ∙ c.read_words.ensures.exact ∙ asks))
+    (c.run_command.ensures.ends number)

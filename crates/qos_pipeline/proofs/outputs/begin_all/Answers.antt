@@ -19,7 +19,9 @@ begin-requires g c =
     let e = get_or es i c.egress-item.result in
     let within : i < length es = omega (arith, c.loop-egress-test.true, c.loop-egress.auto.egress-items) in
     record {
-      unbegun = c.requires.unbegun i e (sym (c.loop-egress.invariant.begun.same i (omega arith)) ∙ slice_get-get_or es i c.egress-item.result within);
+      unbegun =
+          c.requires.unbegun i e
+          (sym (c.loop-egress.invariant.begun.same i (omega arith)) ∙ slice_get-get_or es i c.egress-item.result within);
     }
 
 pub loop-egress-preserved : goal.loop-egress-preserved

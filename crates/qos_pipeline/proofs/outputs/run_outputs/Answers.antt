@@ -1,4 +1,4 @@
-use Rattle.std.proofs.Common.{◌≡◌, ◌∙◌, map, length, string_bytes, slice_get, sym, ap, subst, arith}
+use Rattle.std.proofs.Common.{◌≡◌, ◌∙◌, All, [], map, length, string_bytes, slice_get, sym, ap, subst, arith}
 use Rattle.qos_words.specs.Names.{output_name, output_names}
 use Rattle.qos_pipeline.specs.Ports.{bodies_of, setup_of}
 use Rattle.qos_pipeline.specs.Took.{Took}
@@ -7,8 +7,12 @@ use Rattle.qos_pipeline.specs.Outputs.{sinks_of}
 use Rattle.qos_pipeline.proofs.Dropped.{all-named}
 use Rattle.qos_pipeline.proofs.Lives.{all-begun, sinks-named}
 use Rattle.qos_pipeline.proofs.Places.{there}
-use Rattle.qos_pipeline.proofs.Wholes.{all-left, all-others, all-sure, all-tell, all-written, begun-carry, drained-stopped, dropped-left}
-use Rattle.qos_pipeline.proofs.Wholes.{each-ok, from-ok, name-at, names-apart, names-count, on-err, port-ends, run-is}
+use Rattle.qos_pipeline.proofs.Wholes.{all-left, all-others, all-sure, all-tell, all-written, begun-carry, drained-left, dropped-left}
+use Rattle.qos_pipeline.proofs.Wholes.{name-at, names-apart, names-count, on-err, port-ends, run-is}
+use Rattle.qos_pipeline.proofs.Logged.{legal-logs, one-popped, still-all, took-logs}
+use Rattle.meter_table.specs.declared.table.MeterTable.{MeterTable}
+use Rattle.meter_table.specs.Seats.{AreAllSeats, IsFresh, IsSeatOf, parts_at}
+use Rattle.std.proofs.lemmas.List.Elements.{All-head}
 use Rattle.std.proofs.lemmas.Option.{slice_get_within}
 use Rattle.qos_pipeline.proofs.outputs.run_outputs.Goals as goal
 
@@ -102,20 +106,96 @@ returns-in_err-ran-clause-others g c =
     end.shut end.others in
     all-others run
 
+pub new-marker-requires : goal.new-marker-requires
+new-marker-requires g c =
+    let t = c.in_ok-table.table in
+    let seat = c.in-Some.seat in
+    let one =
+    one-popped c.in_ok-table.seats.items c.pop.new.self.items seat c.in-Some.ensures.items c.in_ok-table.ensures.seats in
+    record { fresh = All-head (IsFresh t) seat [] (subst (All (IsFresh t)) one c.in_ok-table.ensures.fresh) }
+
+pub gather_one-requires-clause-all : goal.gather_one-requires-clause-all
+gather_one-requires-clause-all g c =
+    let t = c.in_ok-table.table in
+    let seat = c.in-Some.seat in
+    let one =
+    one-popped c.in_ok-table.seats.items c.pop.new.self.items seat c.in-Some.ensures.items c.in_ok-table.ensures.seats in
+    let last = c.run_ports-ran.new.marker in
+    let stays = c.in_ok-ran.ensures.marker in
+    let made = c.new-marker.ensures in
+    still-all t seat last.seat (subst (AreAllSeats t) one c.in_ok-table.ensures.all)
+    (subst (λ (t : MeterTable). IsSeatOf t last.seat) (stays.table ∙ made.0) last.seat_is)
+    (λ meter. stays.parts meter ∙ ap (parts_at meter) made.1)
+
+pub returns-in_err-meters-clause-left : goal.returns-in_err-meters-clause-left
+returns-in_err-meters-clause-left g c tells =
+    let p = c.args.p.now in
+    let is = ap (map string_bytes) c.deref.ensures.value ∙ c.in_ok-egresses.ensures.names in
+    let made = c.in_ok-outs.ensures in
+    let end = c.end_all-ended.ensures in
+    let run = run-is c.deref.result.now is (c.names_are_apart.ensures c.args.prefix.now (length p.ports) c.limits.ensures.ports.1)
+    c.in_ok-egresses.ensures.egresses made.count made.named made.created made.others c.begin_all.ensures c.run_ports-ran.ensures.senders
+    end.shut end.others in
+    on-err c.from_residual-in_err-meters.result (λ records stop come.
+    drained-left run tells c.marks_agree.ensures c.in_ok-ran.ensures.drained records stop c.run_ports-ran.new.input
+    c.run_ports-ran.new.marker.marks.items (c.in_ok-ran.ensures.input.input ∙ c.requires.fresh.input_is)
+    (c.in_ok-ran.ensures.took records stop come)
+    (c.run_ports-ran.ensures.carries records stop come (begun-carry run tells (bodies_of records))))
+
+pub returns-in_err-meters-clause-others : goal.returns-in_err-meters-clause-others
+returns-in_err-meters-clause-others g c =
+    let p = c.args.p.now in
+    let is = ap (map string_bytes) c.deref.ensures.value ∙ c.in_ok-egresses.ensures.names in
+    let made = c.in_ok-outs.ensures in
+    let end = c.end_all-ended.ensures in
+    let run = run-is c.deref.result.now is (c.names_are_apart.ensures c.args.prefix.now (length p.ports) c.limits.ensures.ports.1)
+    c.in_ok-egresses.ensures.egresses made.count made.named made.created made.others c.begin_all.ensures c.run_ports-ran.ensures.senders
+    end.shut end.others in
+    all-others run
+
+pub returns-in_err-ports-clause-left : goal.returns-in_err-ports-clause-left
+returns-in_err-ports-clause-left g c tells =
+    let p = c.args.p.now in
+    let is = ap (map string_bytes) c.deref.ensures.value ∙ c.in_ok-egresses.ensures.names in
+    let made = c.in_ok-outs.ensures in
+    let end = c.end_all-ended.ensures in
+    let run = run-is c.deref.result.now is (c.names_are_apart.ensures c.args.prefix.now (length p.ports) c.limits.ensures.ports.1)
+    c.in_ok-egresses.ensures.egresses made.count made.named made.created made.others c.begin_all.ensures c.run_ports-ran.ensures.senders
+    end.shut end.others in
+    on-err c.from_residual-in_err-ports.result (λ records stop come.
+    drained-left run tells c.marks_agree.ensures c.in_ok-ran.ensures.drained records stop c.run_ports-ran.new.input
+    c.run_ports-ran.new.marker.marks.items (c.in_ok-ran.ensures.input.input ∙ c.requires.fresh.input_is)
+    (c.in_ok-ran.ensures.took records stop come)
+    (c.run_ports-ran.ensures.carries records stop come (begun-carry run tells (bodies_of records))))
+
+pub returns-in_err-ports-clause-others : goal.returns-in_err-ports-clause-others
+returns-in_err-ports-clause-others g c =
+    let p = c.args.p.now in
+    let is = ap (map string_bytes) c.deref.ensures.value ∙ c.in_ok-egresses.ensures.names in
+    let made = c.in_ok-outs.ensures in
+    let end = c.end_all-ended.ensures in
+    let run = run-is c.deref.result.now is (c.names_are_apart.ensures c.args.prefix.now (length p.ports) c.limits.ensures.ports.1)
+    c.in_ok-egresses.ensures.egresses made.count made.named made.created made.others c.begin_all.ensures c.run_ports-ran.ensures.senders
+    end.shut end.others in
+    all-others run
+
 pub returns-clause-ports : goal.returns-clause-ports
 returns-clause-ports g c =
-    each-ok _ c.end_all-ended.result (λ r is.
-    port-ends c.args.p.now c.args.input.now.origin c.run_ports-ran.new.egresses.items c.in_ok-ran.ensures.drained r.ports.items
-    (from-ok _ c.end_all-ended.result r is c.end_all-ended.ensures.ended))
+    port-ends c.args.p.now c.args.input.now.origin c.run_ports-ran.new.egresses.items c.in_ok-ran.ensures.drained
+    c.in_ok-ports.ports.items c.in_ok-ports.ensures.ended
 
 pub returns-clause-took : goal.returns-clause-took
-returns-clause-took g c tells =
-    each-ok _ c.end_all-ended.result (λ r is records stop come.
-    let same = from-ok _ c.end_all-ended.result r is c.end_all-ended.ensures.journals in
-    subst (Took c.args.p.now records stop c.run_ports-ran.new.input) (sym same) (c.in_ok-ran.ensures.took records stop come))
+returns-clause-took g c tells records stop come =
+    subst (λ journals. Took c.args.p.now records stop c.run_ports-ran.new.input journals c.in_ok-meters.meters.items)
+    (sym c.in_ok-ports.ensures.journals)
+    (took-logs c.args.p.now c.in_ok-table.ensures.settings c.in_ok-meters.ensures (c.in_ok-ran.ensures.took records stop come)
+    c.marks_agree.ensures c.logs_agree.ensures c.limits.ensures)
+
+pub returns-clause-meters : goal.returns-clause-meters
+returns-clause-meters g c = legal-logs c.args.p.now c.in_ok-table.ensures.settings c.in_ok-meters.ensures
 
 pub returns-clause-written : goal.returns-clause-written
-returns-clause-written g c tells =
+returns-clause-written g c tells records stop come =
     let p = c.args.p.now in
     let is = ap (map string_bytes) c.deref.ensures.value ∙ c.in_ok-egresses.ensures.names in
     let made = c.in_ok-outs.ensures in
@@ -123,24 +203,10 @@ returns-clause-written g c tells =
     let run = run-is c.deref.result.now is (c.names_are_apart.ensures c.args.prefix.now (length p.ports) c.limits.ensures.ports.1)
     c.in_ok-egresses.ensures.egresses made.count made.named made.created made.others c.begin_all.ensures c.run_ports-ran.ensures.senders
     end.shut end.others in
-    each-ok _ c.end_all-ended.result (λ r ok records stop come.
+    let done = c.in_ok-ports.ensures in
     all-written run tells records (c.run_ports-ran.ensures.carries records stop come (begun-carry run tells (bodies_of records)))
-    c.in_ok-ran.ensures.drained r.ports.items r.write_fault.items (from-ok _ c.end_all-ended.result r ok end.ended)
-    (from-ok _ c.end_all-ended.result r ok (end.endings (made.others.tells.1 tells) (all-tell run tells))))
-
-pub returns-clause-left : goal.returns-clause-left
-returns-clause-left g c tells =
-    let p = c.args.p.now in
-    let is = ap (map string_bytes) c.deref.ensures.value ∙ c.in_ok-egresses.ensures.names in
-    let made = c.in_ok-outs.ensures in
-    let end = c.end_all-ended.ensures in
-    let run = run-is c.deref.result.now is (c.names_are_apart.ensures c.args.prefix.now (length p.ports) c.limits.ensures.ports.1)
-    c.in_ok-egresses.ensures.egresses made.count made.named made.created made.others c.begin_all.ensures c.run_ports-ran.ensures.senders
-    end.shut end.others in
-    on-err c.end_all-ended.result (λ records stop come.
-    all-left run tells records (c.run_ports-ran.ensures.carries records stop come (begun-carry run tells (bodies_of records)))
-    (drained-stopped p c.args.input.now.origin c.run_ports-ran.new.egresses.items c.in_ok-ran.ensures.drained records stop
-    c.run_ports-ran.new.input (c.in_ok-ran.ensures.input.input ∙ c.requires.fresh.input_is) (c.in_ok-ran.ensures.took records stop come)))
+    c.in_ok-ran.ensures.drained c.in_ok-ports.ports.items c.in_ok-ports.write_fault.items done.ended
+    (done.endings (made.others.tells.1 tells) (all-tell run tells))
 
 pub returns-clause-sure : goal.returns-clause-sure
 returns-clause-sure g c =
@@ -151,9 +217,8 @@ returns-clause-sure g c =
     let run = run-is c.deref.result.now is (c.names_are_apart.ensures c.args.prefix.now (length p.ports) c.limits.ensures.ports.1)
     c.in_ok-egresses.ensures.egresses made.count made.named made.created made.others c.begin_all.ensures c.run_ports-ran.ensures.senders
     end.shut end.others in
-    each-ok _ c.end_all-ended.result (λ r ok.
-    all-sure run r.write_fault.items (λ n name at. made.sure n name (ap (λ ns. slice_get ns n) is ∙ at))
-    (from-ok _ c.end_all-ended.result r ok end.count) (from-ok _ c.end_all-ended.result r ok end.sure))
+    all-sure run c.in_ok-ports.write_fault.items (λ n name at. made.sure n name (ap (λ ns. slice_get ns n) is ∙ at))
+    c.in_ok-ports.ensures.count c.in_ok-ports.ensures.sure
 
 pub returns-clause-others : goal.returns-clause-others
 returns-clause-others g c =

@@ -5,7 +5,7 @@ use Rattle.qos_pipeline.proofs.ports.take_all.Given as goal
 
 abbrev pub invariant-loop : goal.invariant-loop
 invariant-loop g l = record {
-  goes_on : GoesOn l.fn.p l.fn.input l.input l.fn.egresses.items l.egresses.items;
+  goes_on : GoesOn l.fn.p l.fn.input l.input l.fn.marker l.marker l.fn.egresses.items l.egresses.items;
   slots : l.slots.slot_bytes ≡ l.fn.p.pool.slot_bytes;
 }
 

@@ -1,4 +1,4 @@
-use Rattle.pkt_receive.specs.Mbuf.{IsBodyIn}
+use Rattle.pkt_slots.specs.Mbuf.{IsBodyIn}
 use Rattle.port_egress.proofs.Egresses.{Carries-begun}
 use Rattle.port_egress.proofs.egress.Egress.begin.Goals as goal
 

@@ -1,4 +1,4 @@
-use Rattle.pkt_receive.specs.Mbuf.{IsBodyIn}
+use Rattle.pkt_slots.specs.Mbuf.{IsBodyIn}
 use Rattle.run_journal.specs.PortRun.{schedule}
 use Rattle.port_egress.proofs.Egresses.{waiting-dequeued, sent-dequeued, output-dequeued}
 use Rattle.port_egress.proofs.egress.Egress.dequeue.Goals as goal

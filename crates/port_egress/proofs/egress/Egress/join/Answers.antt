@@ -1,5 +1,5 @@
 use Rattle.std.proofs.Common.{length, ap, ◌∙◌, sym}
-use Rattle.pkt_receive.specs.Mbuf.{IsBodyIn}
+use Rattle.pkt_slots.specs.Mbuf.{IsBodyIn}
 use Rattle.port_egress.proofs.Entries.{sends-joined, sends-tried}
 use Rattle.port_egress.proofs.Egresses.{waiting-arrived}
 use Rattle.port_egress.proofs.egress.Egress.join.Goals as goal

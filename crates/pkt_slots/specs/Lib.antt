@@ -1,0 +1,2 @@
+pub mod Mbuf
+pub mod Placed
