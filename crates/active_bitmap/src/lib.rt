@@ -11,6 +11,3 @@ pub mod laws;
 mod words;
 
 pub use bitmap::{ActiveBitmap, MAX_BITS, MAX_PROBES};
-
-#[cfg(test)]
-mod tests;

@@ -11,6 +11,3 @@ mod table;
 
 pub use entry::Entry;
 pub use table::CodeTable;
-
-#[cfg(test)]
-mod tests;

@@ -16,6 +16,3 @@ mod standard;
 mod tr_tcm;
 
 pub use meter::Meter;
-
-#[cfg(test)]
-mod tests;

@@ -13,6 +13,3 @@ mod seat;
 
 pub use board::CountBoard;
 pub use seat::{BoardSeat, Tally};
-
-#[cfg(test)]
-mod tests;

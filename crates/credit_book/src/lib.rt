@@ -13,6 +13,3 @@ mod watermark;
 pub use bucket::Bucket;
 pub use classes::ClassCredits;
 pub use watermark::Watermark;
-
-#[cfg(test)]
-mod tests;

@@ -18,6 +18,3 @@ mod pool;
 pub use mbuf::Mbuf;
 pub use pass::{Count, PoolPass, Slots};
 pub use pool::{Pool, PoolEnd};
-
-#[cfg(test)]
-mod tests;

@@ -20,6 +20,3 @@ pub use mark::{Mark, MeterLog};
 pub use rule::{Kept, View};
 pub use seat::MeterSeat;
 pub use table::MeterTable;
-
-#[cfg(test)]
-mod tests;

@@ -21,6 +21,3 @@ pub use limits::MAX_RECORDS;
 pub use losses::Losses;
 pub use marker::Marker;
 pub use receive::{Received, Receiver, open_input};
-
-#[cfg(test)]
-mod tests;

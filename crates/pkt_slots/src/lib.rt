@@ -11,6 +11,3 @@ mod slots;
 pub use limits::MAX_CAPTURED;
 pub use mbuf::Mbuf;
 pub use slots::Slots;
-
-#[cfg(test)]
-mod tests;

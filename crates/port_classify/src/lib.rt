@@ -20,6 +20,3 @@ pub use frame::{Frame, Unparsed};
 pub use looking::look;
 pub use placing::place;
 pub use profile_plan::Proto;
-
-#[cfg(test)]
-mod tests;

@@ -13,6 +13,3 @@ mod stamps;
 pub use egress::{Egress, Finished};
 pub use send::Sender;
 pub use stamps::Stamps;
-
-#[cfg(test)]
-mod tests;

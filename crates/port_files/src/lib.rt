@@ -10,6 +10,3 @@ mod create;
 
 pub use close::close_all;
 pub use create::create_all;
-
-#[cfg(test)]
-mod tests;

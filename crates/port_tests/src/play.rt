@@ -1,8 +1,8 @@
 //! A port that is played step by step.
+use crate::check::same;
+use crate::profiles::profile_of;
 use port_sched::PortSched;
 use qos_base::{Colour, Departure, Pkt, Steps};
-use qos_profile::read_profile;
-use std::fmt::Debug;
 use std::process::Abort;
 use std::sync::ledger::Ledger;
 
@@ -30,10 +30,6 @@ pub struct Row<'a> {
     pub steps: &'a [Step<'a>],
 }
 
-fn same<T: PartialEq + Debug>(rt: &impl Abort, value: &T, wanted: &T, note: &str) {
-    assert_eq!(rt; value, wanted, "{note}");
-}
-
 fn packet(name: u32, place: Place, wire: u32) -> Pkt {
     let (subport, pipe, queue) = place;
     Pkt {
@@ -51,8 +47,7 @@ fn packet(name: u32, place: Place, wire: u32) -> Pkt {
 }
 
 fn port_of<R: Abort + AllocGlobal>(rt: &R, text: &str) -> PortSched<Pkt> {
-    let profile = read_profile(rt.alloc(), text.as_bytes()).expect(rt, "a profile");
-    assert!(rt; profile.ports.as_slice().len() > 0);
+    let profile = profile_of(rt, text);
     PortSched::new(rt.alloc(), &profile, 0).expect(rt, "memory")
 }
 

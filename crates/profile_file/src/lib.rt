@@ -11,6 +11,3 @@ mod text;
 
 pub use fault::LoadFault;
 pub use load::load_profile;
-
-#[cfg(test)]
-mod tests;

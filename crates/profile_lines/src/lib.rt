@@ -13,6 +13,3 @@ pub use blanks::words;
 pub use line::{Line, read_line};
 pub use number::{read_number, read_range};
 pub use split::{cut, split_line};
-
-#[cfg(test)]
-mod tests;

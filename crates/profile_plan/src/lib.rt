@@ -17,6 +17,3 @@ pub use port::{PoolPlan, PortPlan, Span, SubportPlan};
 pub use profile::Profile;
 pub use rule::{CodeChoice, PipeChoice, Prefix, Proto, RulePlan, VlanTest};
 pub use shaping::{CLASSES, PipeKind, Rates, Shaping, Whole};
-
-#[cfg(test)]
-mod tests;

@@ -16,6 +16,3 @@ mod subport;
 mod text;
 
 pub use profile::profile_text;
-
-#[cfg(test)]
-mod tests;

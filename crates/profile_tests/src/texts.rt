@@ -1,7 +1,8 @@
 //! Two whole profiles, and how a text's answer is compared.
-use qos_profile::{FaultKind, ProfileError, read_profile};
+use crate::check::same;
+use qos_profile::{FaultKind, Profile, ProfileError, read_profile};
 use std::alloc::Global;
-use std::fmt::Debug;
+use std::fmt::Write;
 use std::process::Abort;
 
 pub(crate) const FIRST: &str = "[port 0]
@@ -65,11 +66,19 @@ pub(crate) type Found = (u32, Option<FaultKind>, u64);
 
 pub(crate) const NONE: Found = (0, None, 0);
 
-pub(crate) fn same<T: PartialEq + Debug>(rt: &impl Abort, value: &T, wanted: &T, note: &str) {
-    assert_eq!(rt; value, wanted, "{note}");
+pub(crate) fn faulty(line: u32, kind: FaultKind) -> Found {
+    (line, Some(kind), 0)
 }
 
-pub(crate) fn found(alloc: Global, text: &[u8]) -> Found {
+pub(crate) fn too_large(total: u64) -> Found {
+    (0, Some(FaultKind::TooLarge), total)
+}
+
+pub(crate) fn read(rt: &impl Abort, alloc: Global, text: &[u8]) -> Profile {
+    read_profile(alloc, text).expect(rt, "a profile")
+}
+
+fn found(alloc: Global, text: &[u8]) -> Found {
     match read_profile(alloc, text) {
         Ok(_) => NONE,
         Err(ProfileError::Fault(fault)) => (fault.line, Some(fault.kind), fault.total),
@@ -77,19 +86,81 @@ pub(crate) fn found(alloc: Global, text: &[u8]) -> Found {
     }
 }
 
-// The first profile with one of its lines replaced, or left out by an empty text.
-pub(crate) fn replaced(rt: &impl Abort, alloc: Global, place: usize, with: &str) -> String {
-    let mut text = String::new(alloc);
-    for (number, line) in FIRST.lines().enumerate() {
-        let line = if number == place { with } else { line };
-        text.push_str(line).expect(rt, "memory");
-        if !line.is_empty() {
-            text.push_str("\n").expect(rt, "memory");
+// The answer for a text.
+pub(crate) fn finds(rt: &impl Abort, alloc: Global, text: &[u8], wanted: Found, note: &str) {
+    same(rt, &found(alloc, text), &wanted, note);
+}
+
+// A line of the first profile, by its number from 0, and what stands in its place: another line, more than one, or
+// nothing.
+pub(crate) type Edit<'a> = (usize, &'a str);
+
+// What stands in the place of a line.
+fn edit_of<'a>(number: usize, edits: &[Edit<'a>]) -> Option<&'a str> {
+    for (place, with) in edits {
+        if *place == number {
+            return Some(*with);
         }
+    }
+    None
+}
+
+pub(crate) fn put(rt: &impl Abort, text: &mut String, more: &str) {
+    text.push_str(more).expect(rt, "memory");
+}
+
+// A number between two texts.
+pub(crate) fn put_number(
+    rt: &impl Abort,
+    text: &mut String,
+    before: &str,
+    number: u32,
+    after: &str,
+) {
+    write!(text, "{before}{number}{after}").expect(rt, "memory");
+}
+
+// Some texts one behind the other.
+pub(crate) fn joined(rt: &impl Abort, alloc: Global, parts: &[&str]) -> String {
+    let mut text = String::new(alloc);
+    for part in parts {
+        put(rt, &mut text, part);
     }
     text
 }
 
-pub(crate) fn faulty(line: u32, kind: FaultKind) -> Found {
-    (line, Some(kind), 0)
+fn put_line(rt: &impl Abort, text: &mut String, line: &str) {
+    if !line.is_empty() {
+        put(rt, text, line);
+        put(rt, text, "\n");
+    }
+}
+
+// A line, or what stands in its place.
+fn put_edited(rt: &impl Abort, text: &mut String, number: usize, line: &str, edits: &[Edit<'_>]) {
+    match edit_of(number, edits) {
+        Some(with) => put_line(rt, text, with),
+        None => put_line(rt, text, line),
+    }
+}
+
+// The first profile with these lines replaced.
+pub(crate) fn edited(rt: &impl Abort, alloc: Global, edits: &[Edit<'_>]) -> String {
+    let mut text = String::new(alloc);
+    for (number, line) in FIRST.lines().enumerate() {
+        put_edited(rt, &mut text, number, line, edits);
+    }
+    text
+}
+
+// The answer for the first profile with these lines replaced.
+pub(crate) fn edited_finds(
+    rt: &impl Abort,
+    alloc: Global,
+    edits: &[Edit<'_>],
+    wanted: Found,
+    note: &str,
+) {
+    let text = edited(rt, alloc, edits);
+    finds(rt, alloc, text.as_str().as_bytes(), wanted, note);
 }

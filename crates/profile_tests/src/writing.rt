@@ -1,43 +1,159 @@
 //! Profiles written, and read back.
-use crate::texts::{FIRST, SKIPPING, same};
-use qos_profile::{profile_text, read_profile};
+use crate::check::same;
+use crate::texts::{FIRST, SKIPPING, joined, put_number, read};
+use qos_profile::{Profile, profile_text};
 use std::alloc::Global;
 use std::process::Abort;
 
-fn written(rt: &impl Abort, alloc: Global, text: &[u8]) -> Vec<u8> {
-    let profile = read_profile(alloc, text).expect(rt, "a profile");
-    profile_text(alloc, &profile).expect(rt, "memory")
+// A profile's text in two parts, and the text that is written of it: what comes first, so many pipes of pipe profile 0, and
+// what comes behind the code points.
+struct Row<'a> {
+    note: &'a str,
+    before: &'a str,
+    text: &'a str,
+    front: &'a str,
+    pipes: u32,
+    behind: &'a str,
 }
 
-// A front, so many pipes of pipe profile 0, the code points, and a rule.
-fn wanted(rt: &impl Abort, alloc: Global, front: &str, pipes: u32, rule: &str) -> String {
+static ROWS: [Row<'static>; 3] = [
+    Row {
+        note: "the first",
+        before: "",
+        text: FIRST,
+        front: FIRST_FRONT,
+        pipes: 1,
+        behind: FIRST_RULE,
+    },
+    Row {
+        note: "rates, and many pipes",
+        before: "",
+        text: SKIPPING,
+        front: SECOND_FRONT,
+        pipes: 4_096,
+        behind: SECOND_RULE,
+    },
+    Row {
+        note: "two ports, two subport profiles, a meter and two rules",
+        before: METERED,
+        text: FIRST,
+        front: THIRD_FRONT,
+        pipes: 1,
+        behind: METER_AND_RULES,
+    },
+];
+
+fn pipes(rt: &impl Abort, alloc: Global, count: u32) -> String {
     let mut text = String::new(alloc);
-    text.push_str(front).expect(rt, "memory");
-    for pipe in 0..pipes {
-        let line = format!(in alloc; "pipe {pipe} = 0\n").expect(rt, "memory");
-        text.push_str(line.as_str()).expect(rt, "memory");
+    for pipe in 0..count {
+        put_number(rt, &mut text, "pipe ", pipe, " = 0\n");
     }
-    text.push_str("oversubscription = no\n")
-        .expect(rt, "memory");
-    text.push_str(CODES).expect(rt, "memory");
-    text.push_str(rule).expect(rt, "memory");
     text
+}
+
+fn by_hand(rt: &impl Abort, alloc: Global, row: &Row<'_>) -> String {
+    let pipes = pipes(rt, alloc, row.pipes);
+    let parts = [row.front, pipes.as_str(), UNSHARED, CODES, row.behind];
+    joined(rt, alloc, &parts)
+}
+
+fn writes(rt: &impl Abort, alloc: Global, profile: &Profile, wanted: &[u8], note: &str) {
+    let text = profile_text(alloc, profile).expect(rt, "memory");
+    same(rt, &text.as_slice(), &wanted, note);
+}
+
+// This is written of the profile that a text says.
+fn rewrites(rt: &impl Abort, alloc: Global, text: &[u8], wanted: &[u8], note: &str) {
+    let profile = read(rt, alloc, text);
+    writes(rt, alloc, &profile, wanted, note);
+}
+
+// A row is written as by hand, and what is written is read back as the same profile.
+fn is_written(rt: &impl Abort, alloc: Global, row: &Row<'_>) {
+    let wanted = by_hand(rt, alloc, row);
+    let text = joined(rt, alloc, &[row.before, row.text]);
+    rewrites(rt, alloc, text.as_bytes(), wanted.as_bytes(), row.note);
+    rewrites(rt, alloc, wanted.as_bytes(), wanted.as_bytes(), row.note);
 }
 
 #[test]
 fn profiles_are_written_and_read_back(rt: HostRuntime) {
-    let alloc = rt.alloc();
-    for (text, front, pipes, rule) in [
-        (FIRST, FIRST_FRONT, 1, FIRST_RULE),
-        (SKIPPING, SECOND_FRONT, 4_096, SECOND_RULE),
-    ] {
-        let once = written(&rt, alloc, text.as_bytes());
-        let by_hand = wanted(&rt, alloc, front, pipes, rule);
-        same(&rt, &once.as_slice(), &by_hand.as_bytes(), "written");
-        let again = written(&rt, alloc, once.as_slice());
-        same(&rt, &again.as_slice(), &once.as_slice(), "read back");
+    for row in &ROWS {
+        is_written(&rt, rt.alloc(), row);
     }
 }
+
+const UNSHARED: &str = "oversubscription = no\n";
+
+// What is read before the first profile.
+const METERED: &str = "[rule 255]
+input = 15
+vlan = none
+proto = ipv4
+dst = 10.1.2.128/25
+port = 1
+subport = 7
+pipe = host
+code = fixed 12 3 yellow
+meter = m1
+[meter m1]
+kind = trtcm
+mode = aware
+cir rate = 10000000
+pir bytes = 2
+pir period = 100
+cbs = 20000
+pbs = 40000
+[subport profile 63]
+tb rate = 305175
+tb size = 1000000
+tc 0-12 rate = 305175
+tc period = 40
+[port 1]
+line rate = 1250000000
+subports = 8
+drain ms = 0
+[subport 1 0]
+profile = 0
+pipes = 1
+queue sizes = 64 64 64 64 64 64 64 64 64 64 64 64 64
+pipe 0 = 0
+[subport 1 1]
+profile = 0
+pipes = 1
+queue sizes = 64 64 64 64 64 64 64 64 64 64 64 64 64
+pipe 0 = 0
+[subport 1 2]
+profile = 0
+pipes = 1
+queue sizes = 64 64 64 64 64 64 64 64 64 64 64 64 64
+pipe 0 = 0
+[subport 1 3]
+profile = 0
+pipes = 1
+queue sizes = 64 64 64 64 64 64 64 64 64 64 64 64 64
+pipe 0 = 0
+[subport 1 4]
+profile = 0
+pipes = 1
+queue sizes = 64 64 64 64 64 64 64 64 64 64 64 64 64
+pipe 0 = 0
+[subport 1 5]
+profile = 0
+pipes = 1
+queue sizes = 64 64 64 64 64 64 64 64 64 64 64 64 64
+pipe 0 = 0
+[subport 1 6]
+profile = 0
+pipes = 1
+queue sizes = 64 64 64 64 64 64 64 64 64 64 64 64 64
+pipe 0 = 0
+[subport 1 7]
+profile = 63
+pipes = 1
+queue sizes = 64 64 64 64 64 64 64 64 64 64 64 64 64
+pipe 0 = 0
+";
 
 const FIRST_FRONT: &str = "[pool]
 slots = 65536
@@ -171,6 +287,169 @@ port = 0
 subport = 0
 pipe = host
 code = dscp
+";
+
+const THIRD_FRONT: &str = "[pool]
+slots = 65536
+slot bytes = 2048
+ring size = 8192
+[port 0]
+line rate = 1000000000
+subports = 1
+frame overhead = 24
+mtu = 1522
+burst = 32
+quantum = 65536
+drain ms = 0
+[port 1]
+line rate = 1250000000
+subports = 8
+frame overhead = 24
+mtu = 1522
+burst = 32
+quantum = 65536
+drain ms = 0
+[subport profile 0]
+tb credits = 1
+tb period = 1
+tb size = 2000000
+tc 0 credits = 1000000
+tc 1 credits = 1000000
+tc 2 credits = 1000000
+tc 3 credits = 1000000
+tc 4 credits = 1000000
+tc 5 credits = 1000000
+tc 6 credits = 1000000
+tc 7 credits = 1000000
+tc 8 credits = 1000000
+tc 9 credits = 1000000
+tc 10 credits = 1000000
+tc 11 credits = 1000000
+tc 12 credits = 1000000
+tc period = 1000000
+[subport profile 63]
+tb rate = 305175
+tb size = 1000000
+tc 0 rate = 305175
+tc 1 rate = 305175
+tc 2 rate = 305175
+tc 3 rate = 305175
+tc 4 rate = 305175
+tc 5 rate = 305175
+tc 6 rate = 305175
+tc 7 rate = 305175
+tc 8 rate = 305175
+tc 9 rate = 305175
+tc 10 rate = 305175
+tc 11 rate = 305175
+tc 12 rate = 305175
+tc period = 40
+[pipe profile 0]
+tb credits = 1
+tb period = 1
+tb size = 2000000
+tc 0 credits = 1000000
+tc 1 credits = 1000000
+tc 2 credits = 1000000
+tc 3 credits = 1000000
+tc 4 credits = 1000000
+tc 5 credits = 1000000
+tc 6 credits = 1000000
+tc 7 credits = 1000000
+tc 8 credits = 1000000
+tc 9 credits = 1000000
+tc 10 credits = 1000000
+tc 11 credits = 1000000
+tc 12 credits = 1000000
+tc period = 1000000
+tc 12 wrr weights = 1 1 1 1
+tc 12 oversubscription weight = 1
+[subport 0 0]
+profile = 0
+pipes = 1
+queue sizes = 64 64 64 64 64 64 64 64 64 64 64 64 64
+pipe 0 = 0
+oversubscription = no
+[subport 1 0]
+profile = 0
+pipes = 1
+queue sizes = 64 64 64 64 64 64 64 64 64 64 64 64 64
+pipe 0 = 0
+oversubscription = no
+[subport 1 1]
+profile = 0
+pipes = 1
+queue sizes = 64 64 64 64 64 64 64 64 64 64 64 64 64
+pipe 0 = 0
+oversubscription = no
+[subport 1 2]
+profile = 0
+pipes = 1
+queue sizes = 64 64 64 64 64 64 64 64 64 64 64 64 64
+pipe 0 = 0
+oversubscription = no
+[subport 1 3]
+profile = 0
+pipes = 1
+queue sizes = 64 64 64 64 64 64 64 64 64 64 64 64 64
+pipe 0 = 0
+oversubscription = no
+[subport 1 4]
+profile = 0
+pipes = 1
+queue sizes = 64 64 64 64 64 64 64 64 64 64 64 64 64
+pipe 0 = 0
+oversubscription = no
+[subport 1 5]
+profile = 0
+pipes = 1
+queue sizes = 64 64 64 64 64 64 64 64 64 64 64 64 64
+pipe 0 = 0
+oversubscription = no
+[subport 1 6]
+profile = 0
+pipes = 1
+queue sizes = 64 64 64 64 64 64 64 64 64 64 64 64 64
+pipe 0 = 0
+oversubscription = no
+[subport 1 7]
+profile = 63
+pipes = 1
+queue sizes = 64 64 64 64 64 64 64 64 64 64 64 64 64
+";
+
+const METER_AND_RULES: &str = "[meter m1]
+kind = trtcm
+mode = aware
+cir rate = 10000000
+pir bytes = 2
+pir period = 100
+cbs = 20000
+pbs = 40000
+green = pass
+yellow = pass
+red = drop
+[rule 0]
+input = any
+vlan = any
+proto = any
+src = any
+dst = any
+port = 0
+subport = 0
+pipe = 0
+code = dscp
+[rule 255]
+input = 15
+vlan = none
+proto = ipv4
+src = any
+dst = 10.1.2.128/25
+port = 1
+subport = 7
+pipe = host
+code = fixed 12 3 yellow
+meter = m1
 ";
 
 const CODES: &str = "[codes dscp]

@@ -21,6 +21,3 @@ pub use reason::Reason;
 pub use sequence::Sequence;
 pub use steps::Steps;
 pub use time::{LAST_STAMP, MAX_LINE, MAX_MOMENT, MIN_LINE, NANOSECONDS, byte_time, send_stamp};
-
-#[cfg(test)]
-mod tests;

@@ -28,6 +28,3 @@ pub use source::{Failed, Source};
 pub use whole_shelf::WholeShelf;
 pub use whole_sink::WholeSink;
 pub use whole_source::WholeSource;
-
-#[cfg(test)]
-mod tests;

@@ -20,6 +20,3 @@ pub use fault::{PcapFault, Stop};
 pub use head::Head;
 pub use opening::open_capture;
 pub use write::{put_header, put_record};
-
-#[cfg(test)]
-mod tests;

@@ -11,6 +11,3 @@ mod words;
 
 pub use names::output_names;
 pub use words::{RunWords, read_words};
-
-#[cfg(test)]
-mod tests;

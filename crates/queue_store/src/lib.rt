@@ -10,6 +10,3 @@ mod store;
 
 pub use qos_base::TailFull;
 pub use store::QueueStore;
-
-#[cfg(test)]
-mod tests;

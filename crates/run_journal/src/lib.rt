@@ -22,6 +22,3 @@ pub use pace::Pace;
 pub use pacer::Pacer;
 pub use port_run::PortRun;
 pub use tally::Tally;
-
-#[cfg(test)]
-mod tests;

@@ -17,6 +17,3 @@ mod text;
 pub use ended::{Ended, InputEnd, Note};
 pub use report::{put_memory, put_report};
 pub use status::Status;
-
-#[cfg(test)]
-mod tests;

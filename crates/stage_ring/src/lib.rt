@@ -19,6 +19,3 @@ pub use line::Known;
 pub use make::ring;
 pub use msg::{Full, Msg, Posted};
 pub use outlet::{Outlet, Sent};
-
-#[cfg(test)]
-mod tests;

@@ -11,6 +11,3 @@ mod pick;
 mod wrr;
 
 pub use wrr::{MAX_COST, QUEUES, Wrr};
-
-#[cfg(test)]
-mod tests;

@@ -1,4 +1,0 @@
-use Rattle.active_bitmap.proofs.tests.set_bits_are_found.Given as goal
-
-abbrev pub ghosts-all_are_found : goal.ghosts-all_are_found
-ghosts-all_are_found _ a = record { name = a.blank.name; parts = a.blank.parts }

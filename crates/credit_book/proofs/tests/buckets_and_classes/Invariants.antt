@@ -1,4 +1,0 @@
-use Rattle.credit_book.proofs.tests.buckets_and_classes.Given as goal
-
-abbrev pub ghosts-credits_are_brought : goal.ghosts-credits_are_brought
-ghosts-credits_are_brought _ a = record { name = a.blank.name; parts = a.blank.parts }

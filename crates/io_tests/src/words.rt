@@ -1,0 +1,80 @@
+//! The words of the command line, and the names of outputs.
+use crate::check::same;
+use qos_words::{output_names, read_words};
+use std::process::Abort;
+
+// A line of words, and the profile, the prefix and the capture that it asks for.
+const LINES: [(&str, Option<(&str, &str, &str)>); 21] = [
+    ("run --profile p --out o a", Some(("p", "o", "a"))),
+    ("run --out o --profile p a", Some(("p", "o", "a"))),
+    ("run --profile p --out o p", Some(("p", "o", "p"))),
+    (
+        "run --profile p --out o o.16.pcap",
+        Some(("p", "o", "o.16.pcap")),
+    ),
+    ("", None),
+    ("run --help", None),
+    ("run --profile p", None),
+    ("run --profile p --out o", None),
+    ("run --profile p --out o a b", None),
+    ("run --profile p --out o --out q a", None),
+    ("run --out o --out q a", None),
+    ("run --cores 0 --profile p --out o a", None),
+    ("run --profile p a --out o", None),
+    ("walk --profile p --out o a", None),
+    ("run --profile  --out o a", None),
+    ("run --profile p --out  a", None),
+    ("run --profile p --out o ", None),
+    ("run --profile p --out -o a", None),
+    ("run --profile --profile --out o a", None),
+    ("run --profile p.0.pcap --out p a", None),
+    ("run --profile p --out o o.15.pcap", None),
+];
+
+// The words of a line stand one blank apart, so that two blanks have an empty word between them.
+fn words_of<R: Abort + AllocGlobal>(rt: &R, line: &str) -> Vec<String> {
+    let mut words = Vec::new(rt.alloc());
+    for word in line.split(' ') {
+        let word = String::from_str(rt.alloc(), word).expect(rt, "memory");
+        words.push(word).expect(rt, "memory");
+    }
+    words
+}
+
+fn asked(words: &[String]) -> Option<(&str, &str, &str)> {
+    match read_words(words) {
+        Some(run) => Some((run.profile, run.prefix, run.capture)),
+        None => None,
+    }
+}
+
+fn asks<R: Abort + AllocGlobal>(rt: &R, line: &str, wanted: Option<(&str, &str, &str)>) {
+    let words = words_of(rt, line);
+    same(rt, &asked(&words), &wanted, line);
+}
+
+#[test]
+fn words_ask_for_a_run(rt: HostRuntime) {
+    for (line, wanted) in LINES {
+        asks(&rt, line, wanted);
+    }
+    same(&rt, &asked(&[]), &None, "no words");
+}
+
+fn names<R: Abort + AllocGlobal>(rt: &R, prefix: &str, ports: usize) -> Vec<String> {
+    assert!(rt; ports <= 16);
+    output_names(rt.alloc(), prefix, ports).expect(rt, "memory")
+}
+
+#[test]
+fn outputs_have_names(rt: HostRuntime) {
+    for (ports, line) in [
+        (1, "dir/o.0.pcap"),
+        (3, "dir/o.0.pcap dir/o.1.pcap dir/o.2.pcap"),
+    ] {
+        same(&rt, &names(&rt, "dir/o", ports), &words_of(&rt, line), line);
+    }
+    let all = names(&rt, "o", 16);
+    let seen = (all.len(), all.last().map(|name| name.as_str()));
+    same(&rt, &seen, &(16, Some("o.15.pcap")), "all ports");
+}

@@ -1,4 +1,0 @@
-use Rattle.qos_base.proofs.tests.a_step_is_counted.Given as goal
-
-abbrev pub ghosts-counted : goal.ghosts-counted
-ghosts-counted a = record { name = a.blank.name; parts = a.blank.parts }
