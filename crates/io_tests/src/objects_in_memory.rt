@@ -44,7 +44,7 @@ fn sources_are_read_to_the_end(rt: HostRuntime) {
 }
 
 // What is put, and the answer: the second and the fourth put fail.
-const PUTS: [([u8; 2], Result<(), PutFault>); 5] = [
+const PUTS: &[([u8; 2], Result<(), PutFault>)] = &[
     ([1, 2], Ok(())),
     ([3, 4], Err(PutFault::Failed)),
     ([5, 6], Ok(())),
@@ -52,21 +52,30 @@ const PUTS: [([u8; 2], Result<(), PutFault>); 5] = [
     ([9, 0], Ok(())),
 ];
 
-fn puts<K: Sink>(rt: &impl Abort, sink: &mut K, bytes: [u8; 2], answer: Result<(), PutFault>) {
-    same(rt, &sink.put(&bytes), &answer, "a put");
+fn puts<K: Sink>(rt: &impl Abort, sink: &mut K, put: &([u8; 2], Result<(), PutFault>)) {
+    let (bytes, answer) = put;
+    same(rt, &sink.put(bytes), answer, "a put");
+}
+
+fn failing_sink<R: Abort + AllocGlobal>(rt: &R) -> MemSink {
+    let fails = [1u32, 3].to_vec(rt.alloc()).expect(rt, "memory");
+    MemSink::new(rt.alloc(), fails)
+}
+
+fn puts_all<K: Sink>(rt: &impl Abort, sink: &mut K) {
+    for put in PUTS {
+        puts(rt, sink, put);
+    }
 }
 
 #[test]
 fn sinks_hold_what_was_put(rt: HostRuntime) {
-    let fails = [1u32, 3].to_vec(rt.alloc()).expect(&rt, "memory");
-    let mut sink = MemSink::new(rt.alloc(), fails);
-    for (bytes, answer) in PUTS {
-        puts(&rt, &mut sink, bytes, answer);
-    }
+    let mut sink = failing_sink(&rt);
+    puts_all(&rt, &mut sink);
     let wanted = [1, 2, 5, 6, 9, 0].as_slice();
     same(&rt, &sink.bytes(), &wanted, "planned failures");
     let mut whole = WholeSink::new(rt.alloc());
-    puts(&rt, &mut whole, [1, 2], Ok(()));
+    puts(&rt, &mut whole, &([1, 2], Ok(())));
     let wanted = [1, 2].as_slice();
     same(&rt, &whole.bytes(), &wanted, "a sink that never fails");
 }
@@ -82,38 +91,51 @@ fn copy<H: Shelf>(shelf: &mut H, from: &str, to: &str) -> Result<(), PutFault> {
     shelf.close_out(sink)
 }
 
-fn copies<H: Shelf>(
-    rt: &impl Abort,
-    shelf: &mut H,
-    from: &str,
-    to: &str,
-    answer: Result<(), PutFault>,
-) {
-    same(rt, &copy(shelf, from, to), &answer, from);
+fn copies<H: Shelf>(rt: &impl Abort, shelf: &mut H, row: &(&str, &str, Result<(), PutFault>)) {
+    let (from, to, answer) = row;
+    same(rt, &copy(shelf, from, to), answer, from);
 }
 
 // From which file to which, and the answer.
-const COPIES: [(&str, &str, Result<(), PutFault>); 3] = [
+const COPIES: &[(&str, &str, Result<(), PutFault>)] = &[
     ("a", "b", Ok(())),
     ("c", "b", Err(PutFault::Failed)),
     ("b", "d", Ok(())),
 ];
 
+fn copies_all<H: Shelf>(rt: &impl Abort, shelf: &mut H) {
+    for row in COPIES {
+        copies(rt, shelf, row);
+    }
+}
+
 const ONES: Option<&[u8]> = Some(&[1; 3]);
+
+fn two_files<R: Abort + AllocGlobal>(rt: &R) -> MemShelf {
+    let mut shelf = MemShelf::new(rt.alloc());
+    for (name, byte) in [("a", 1), ("b", 4)] {
+        let put = shelf.put_file(name, owned(rt, &[byte; 3]));
+        put.expect(rt, "memory");
+    }
+    shelf
+}
+
+fn keeps(rt: &impl Abort, shelf: &MemShelf, name: &str, held: Option<&[u8]>) {
+    same(rt, &shelf.file(name), &held, name);
+}
 
 #[test]
 fn a_shelf_keeps_files_by_name(rt: HostRuntime) {
-    let mut shelf = MemShelf::new(rt.alloc());
-    for (name, byte) in [("a", 1), ("b", 4)] {
-        let put = shelf.put_file(name, owned(&rt, &[byte; 3]));
-        put.expect(&rt, "memory");
-    }
-    for (from, to, answer) in COPIES {
-        copies(&rt, &mut shelf, from, to, answer);
-    }
-    for (name, held) in [("a", ONES), ("b", ONES), ("c", None), ("d", ONES)] {
-        same(&rt, &shelf.file(name), &held, name);
-    }
+    let mut shelf = two_files(&rt);
+    copies_all(&rt, &mut shelf);
+    keeps(&rt, &shelf, "a", ONES);
+    keeps(&rt, &shelf, "b", ONES);
+    keeps(&rt, &shelf, "c", None);
+    keeps(&rt, &shelf, "d", ONES);
+}
+
+fn whole_keeps(rt: &impl Abort, shelf: &WholeShelf, name: &str, held: Option<&[u8]>) {
+    same(rt, &shelf.file(name), &held, name);
 }
 
 // A name of no file opens as an empty file.
@@ -122,12 +144,12 @@ fn a_whole_shelf_keeps_files_by_name(rt: HostRuntime) {
     let mut shelf = WholeShelf::new(rt.alloc());
     let put = shelf.put_file("a", owned(&rt, &[1; 3]));
     put.expect(&rt, "memory");
-    for (from, to) in [("a", "b"), ("c", "d")] {
-        copies(&rt, &mut shelf, from, to, Ok(()));
-    }
-    for (name, len) in [("a", Some(3)), ("b", Some(3)), ("c", None), ("d", Some(0))] {
-        same(&rt, &shelf.file(name).map(|bytes| bytes.len()), &len, name);
-    }
+    copies(&rt, &mut shelf, &("a", "b", Ok(())));
+    copies(&rt, &mut shelf, &("c", "d", Ok(())));
+    whole_keeps(&rt, &shelf, "a", ONES);
+    whole_keeps(&rt, &shelf, "b", ONES);
+    whole_keeps(&rt, &shelf, "c", None);
+    whole_keeps(&rt, &shelf, "d", Some(&[]));
 }
 
 /// A sink of a shelf, with these bytes.

@@ -1,5 +1,5 @@
 //! The files of outputs: what their creation and their closing come to.
-ghost use Rattle.std.specs.Prelude.{◌≡◌, length, map, string_bytes};
+ghost use Rattle.std.specs.Prelude.{◌≡◌, ◌≤◌, [], All, IfSome, IsSome, length, map, string_bytes, vec_capacity};
 ghost use Rattle.port_files.specs.Among.{AreApart};
 
 use crate::check::{owned, same};
@@ -41,18 +41,56 @@ fn has_sink<K>(outs: &[Option<K>], place: usize) -> Option<bool> {
     }
 }
 
-fn run<H: Shelf, R: AllocGlobal + Abort>(rt: &R, shelf: &mut H) -> Seen {
-    let names = names(rt);
-    let mut outs = Vec::with_capacity(rt.alloc(), 3).expect(rt, "memory");
+fn sinks_of<K>(outs: &[Option<K>]) -> [Option<bool>; 3] {
+    [has_sink(outs, 0), has_sink(outs, 1), has_sink(outs, 2)]
+}
+
+fn first_three(failed: &[bool]) -> [Option<bool>; 3] {
+    [
+        failed.first().copied(),
+        failed.get(1).copied(),
+        failed.get(2).copied(),
+    ]
+}
+
+// Creates the outputs, and tells whether no memory was refused.
+fn create<H: Shelf, R: AllocGlobal + Abort>(
+    rt: &R,
+    shelf: &mut H,
+    outs: &mut Vec<Option<H::Out>>,
+) -> bool
+    requires empty { outs.old.items ≡ [] }
+    requires room { 3 ≤ vec_capacity outs.old }
+    ensures few { length outs.new.items ≤ 3 }
+    ensures named { All (λ out. IfSome out (λ k. IsSome (H.Out.name k))) outs.new.items }
+{
+    create_all(shelf, names(rt).as_slice(), outs).is_ok()
+}
+
+// Closes the outputs, and tells whether no memory was refused and which closings failed.
+fn close<H: Shelf, R: AllocGlobal + Abort>(
+    rt: &R,
+    shelf: &mut H,
+    outs: Vec<Option<H::Out>>,
+) -> (bool, [Option<bool>; 3])
+    requires few { length outs.items ≤ 3 }
+    requires named { All (λ out. IfSome out (λ k. IsSome (H.Out.name k))) outs.items }
+{
     let mut failed = Vec::with_capacity(rt.alloc(), 3).expect(rt, "memory");
-    let created = create_all(shelf, names.as_slice(), &mut outs).is_ok();
-    let sinks = [0, 1, 2].map(|place| has_sink(outs.as_slice(), place));
     let closed = close_all(shelf, outs, &mut failed).is_ok();
+    (closed, first_three(failed.as_slice()))
+}
+
+fn run<H: Shelf, R: AllocGlobal + Abort>(rt: &R, shelf: &mut H) -> Seen {
+    let mut outs = Vec::with_capacity(rt.alloc(), 3).expect(rt, "memory");
+    let created = create(rt, shelf, &mut outs);
+    let sinks = sinks_of(outs.as_slice());
+    let (closed, failed) = close(rt, shelf, outs);
     Seen {
         created,
         sinks,
         closed,
-        failed: [0, 1, 2].map(|place| failed.get(place).copied()),
+        failed,
     }
 }
 
@@ -75,73 +113,75 @@ const ALL_FINE: Seen = Seen {
     failed: [Some(false); 3],
 };
 
-const ROWS: [Row; 5] = [
-    Row {
-        fails: Fails {
-            creates: [None; 3],
-            closes: [None; 3],
-        },
-        seen: ALL_FINE,
-        counts: [3, 3, 0],
-        note: "all fine",
+const FINE_ROW: Row = Row {
+    fails: Fails {
+        creates: [None; 3],
+        closes: [None; 3],
     },
-    Row {
-        fails: Fails {
-            creates: [None, FAILED, None],
-            closes: [None; 3],
-        },
-        seen: Seen {
-            created: true,
-            sinks: [Some(true), Some(false), Some(true)],
-            closed: true,
-            failed: [Some(false); 3],
-        },
-        counts: [3, 2, 1],
-        note: "the second creation fails",
+    seen: ALL_FINE,
+    counts: [3, 3, 0],
+    note: "all fine",
+};
+
+const CREATION_ROW: Row = Row {
+    fails: Fails {
+        creates: [None, FAILED, None],
+        closes: [None; 3],
     },
-    Row {
-        fails: Fails {
-            creates: [None, REFUSED, None],
-            closes: [None; 3],
-        },
-        seen: Seen {
-            created: false,
-            sinks: [Some(true), None, None],
-            closed: true,
-            failed: [Some(false), None, None],
-        },
-        counts: [2, 1, 0],
-        note: "memory is refused for the second creation",
+    seen: Seen {
+        created: true,
+        sinks: [Some(true), Some(false), Some(true)],
+        closed: true,
+        failed: [Some(false); 3],
     },
-    Row {
-        fails: Fails {
-            creates: [None; 3],
-            closes: [None, FAILED, None],
-        },
-        seen: Seen {
-            created: true,
-            sinks: [Some(true); 3],
-            closed: true,
-            failed: [Some(false), Some(true), Some(false)],
-        },
-        counts: [3, 3, 1],
-        note: "the second closing fails",
+    counts: [3, 2, 1],
+    note: "the second creation fails",
+};
+
+const NO_MEMORY_ROW: Row = Row {
+    fails: Fails {
+        creates: [None, REFUSED, None],
+        closes: [None; 3],
     },
-    Row {
-        fails: Fails {
-            creates: [None; 3],
-            closes: [REFUSED, None, FAILED],
-        },
-        seen: Seen {
-            created: true,
-            sinks: [Some(true); 3],
-            closed: false,
-            failed: [Some(false), Some(false), Some(true)],
-        },
-        counts: [3, 3, 1],
-        note: "memory is refused for the first closing, and the last fails",
+    seen: Seen {
+        created: false,
+        sinks: [Some(true), None, None],
+        closed: true,
+        failed: [Some(false), None, None],
     },
-];
+    counts: [2, 1, 0],
+    note: "memory is refused for the second creation",
+};
+
+const CLOSING_ROW: Row = Row {
+    fails: Fails {
+        creates: [None; 3],
+        closes: [None, FAILED, None],
+    },
+    seen: Seen {
+        created: true,
+        sinks: [Some(true); 3],
+        closed: true,
+        failed: [Some(false), Some(true), Some(false)],
+    },
+    counts: [3, 3, 1],
+    note: "the second closing fails",
+};
+
+const BOTH_ROW: Row = Row {
+    fails: Fails {
+        creates: [None; 3],
+        closes: [REFUSED, None, FAILED],
+    },
+    seen: Seen {
+        created: true,
+        sinks: [Some(true); 3],
+        closed: false,
+        failed: [Some(false), Some(false), Some(true)],
+    },
+    counts: [3, 3, 1],
+    note: "memory is refused for the first closing, and the last fails",
+};
 
 fn ends_so<R: AllocGlobal + Abort>(rt: &R, row: &Row) {
     let mut shelf = PlannedShelf::new(rt.alloc(), row.fails);
@@ -152,20 +192,44 @@ fn ends_so<R: AllocGlobal + Abort>(rt: &R, row: &Row) {
 
 #[test]
 fn each_output_ends_by_itself(rt: HostRuntime) {
-    for row in &ROWS {
-        ends_so(&rt, row);
+    ends_so(&rt, &FINE_ROW);
+    ends_so(&rt, &CREATION_ROW);
+    ends_so(&rt, &NO_MEMORY_ROW);
+    ends_so(&rt, &CLOSING_ROW);
+    ends_so(&rt, &BOTH_ROW);
+}
+
+// What the files "a" to "d" of a shelf hold, by their lengths.
+fn lengths(shelf: &MemShelf) -> [Option<usize>; 4] {
+    [
+        length_of(shelf, "a"),
+        length_of(shelf, "b"),
+        length_of(shelf, "c"),
+        length_of(shelf, "d"),
+    ]
+}
+
+fn length_of(shelf: &MemShelf, name: &str) -> Option<usize> {
+    match shelf.file(name) {
+        Some(bytes) => Some(bytes.len()),
+        None => None,
     }
+}
+
+fn shelf_with_two<R: AllocGlobal + Abort>(rt: &R) -> MemShelf {
+    let mut shelf = MemShelf::new(rt.alloc());
+    for name in ["b", "d"] {
+        let put = shelf.put_file(name, owned(rt, &[1, 2]));
+        put.expect(rt, "memory");
+    }
+    shelf
 }
 
 #[test]
 fn a_file_that_was_there_is_emptied(rt: HostRuntime) {
-    let mut shelf = MemShelf::new(rt.alloc());
-    for name in ["b", "d"] {
-        let put = shelf.put_file(name, owned(&rt, &[1, 2]));
-        put.expect(&rt, "memory");
-    }
-    same(&rt, &run(&rt, &mut shelf), &ALL_FINE, "in memory");
-    let held = ["a", "b", "c", "d"].map(|name| shelf.file(name).map(|bytes| bytes.len()));
+    let mut shelf = shelf_with_two(&rt);
+    let seen = run(&rt, &mut shelf);
     let wanted = [Some(0), Some(0), Some(0), Some(2)];
-    same(&rt, &held, &wanted, "the lengths of the files");
+    let found = (seen, lengths(&shelf));
+    same(&rt, &found, &(ALL_FINE, wanted), "in memory");
 }

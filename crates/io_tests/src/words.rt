@@ -4,7 +4,7 @@ use qos_words::{output_names, read_words};
 use std::process::Abort;
 
 // A line of words, and the profile, the prefix and the capture that it asks for.
-const LINES: [(&str, Option<(&str, &str, &str)>); 21] = [
+const LINES: &[(&str, Option<(&str, &str, &str)>)] = &[
     ("run --profile p --out o a", Some(("p", "o", "a"))),
     ("run --out o --profile p a", Some(("p", "o", "a"))),
     ("run --profile p --out o p", Some(("p", "o", "p"))),
@@ -48,15 +48,16 @@ fn asked(words: &[String]) -> Option<(&str, &str, &str)> {
     }
 }
 
-fn asks<R: Abort + AllocGlobal>(rt: &R, line: &str, wanted: Option<(&str, &str, &str)>) {
+fn asks<R: Abort + AllocGlobal>(rt: &R, row: &(&str, Option<(&str, &str, &str)>)) {
+    let (line, wanted) = row;
     let words = words_of(rt, line);
-    same(rt, &asked(&words), &wanted, line);
+    same(rt, &asked(&words), wanted, line);
 }
 
 #[test]
 fn words_ask_for_a_run(rt: HostRuntime) {
-    for (line, wanted) in LINES {
-        asks(&rt, line, wanted);
+    for line in LINES {
+        asks(&rt, line);
     }
     same(&rt, &asked(&[]), &None, "no words");
 }

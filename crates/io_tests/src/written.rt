@@ -30,18 +30,27 @@ fn put_one<K: Sink>(out: &mut K) -> Result<(), PutFault> {
     put_record(out, STAMP, 60, &[7; 60])
 }
 
-fn holds<R: Abort + AllocGlobal>(rt: &R, call: u32, answer: Result<(), PutFault>, len: usize) {
+fn failing_sink<R: Abort + AllocGlobal>(rt: &R, call: u32) -> MemSink {
     let fails = vec![in rt.alloc(); call].expect(rt, "memory");
-    let mut out = MemSink::new(rt.alloc(), fails);
-    same(rt, &put_one(&mut out), &answer, "the answer");
+    MemSink::new(rt.alloc(), fails)
+}
+
+fn begins_so<R: Abort + AllocGlobal>(rt: &R, held: &[u8], len: usize) {
     let mut text = three(rt, &NANOSECONDS);
     text.truncate(len);
-    same(rt, &out.bytes(), &text.as_slice(), "what is held");
+    same(rt, &held, &text.as_slice(), "what is held");
+}
+
+fn holds<R: Abort + AllocGlobal>(rt: &R, row: &(u32, Result<(), PutFault>, usize)) {
+    let (call, answer, len) = row;
+    let mut out = failing_sink(rt, *call);
+    same(rt, &put_one(&mut out), answer, "the answer");
+    begins_so(rt, out.bytes(), *len);
 }
 
 // Which put fails, the answer, and how many bytes are held. The header is one put, and the record one of its head and one
 // of its body.
-const PUTS: [(u32, Result<(), PutFault>, usize); 4] = [
+const PUTS: &[(u32, Result<(), PutFault>, usize)] = &[
     (0, Err(PutFault::Failed), 0),
     (1, Err(PutFault::Failed), 24),
     (2, Err(PutFault::Failed), 40),
@@ -50,8 +59,8 @@ const PUTS: [(u32, Result<(), PutFault>, usize); 4] = [
 
 #[test]
 fn what_is_written_has_the_format(rt: HostRuntime) {
-    for (call, answer, len) in PUTS {
-        holds(&rt, call, answer, len);
+    for row in PUTS {
+        holds(&rt, row);
     }
     let mut whole = WholeSink::new(rt.alloc());
     let answer = put_one(&mut whole);

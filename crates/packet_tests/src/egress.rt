@@ -58,7 +58,7 @@ struct Row {
 }
 
 // The header is one put, and a record two: its head, and its body.
-const ROWS: [Row; 8] = [
+static ROWS: [Row; 8] = [
     Row {
         note: "a header alone",
         refused: Some(&[]),
@@ -254,10 +254,15 @@ fn run_row<R: Abort + AllocGlobal>(rt: &R, p: &Profile, row: &Row) {
     );
 }
 
+fn run_rows<R: Abort + AllocGlobal>(rt: &R, p: &Profile) {
+    for row in &ROWS {
+        run_row(rt, p, row);
+    }
+}
+
 #[test]
 fn each_send_is_written(rt: HostRuntime) {
     let p = read(&rt, ONE_PORT);
-    for row in &ROWS {
-        run_row(&rt, &p, row);
-    }
+    run_rows(&rt, &p);
+    drop(p);
 }

@@ -4,7 +4,7 @@ use profile_plan::Profile;
 use qos_profile::read_profile;
 use std::process::Abort;
 
-/// The profile of a text.
+/// The profile of a text. A function that holds one ends with `drop`: what that does is proved once, and not in each.
 pub(crate) fn read<R: Abort + AllocGlobal>(rt: &R, text: &str) -> Profile {
     read_profile(rt.alloc(), text.as_bytes()).expect(rt, "a profile")
 }

@@ -59,7 +59,7 @@ const POLICED: Wanted = Some(Err(Reason::Policed));
 
 // The ports send frames of 1,522 and of 1,523 bytes, and a slot holds 2,048. The meter holds 46 bytes for green packets
 // and 46 for yellow ones and earns none, and the profile drops red ones.
-const ROWS: [Row; 12] = [
+static ROWS: [Row; 12] = [
     Row {
         note: "a frame",
         cap: 60,
@@ -221,15 +221,20 @@ fn put_row<R: Abort + AllocGlobal>(rt: &R, bytes: &mut Vec<u8>, row: &Row) {
     put_record(rt, bytes, head, &body(rt, row));
 }
 
-// A shelf with a capture of the rows, but for its last byte.
-fn shelf<R: Abort + AllocGlobal>(rt: &R) -> MemShelf {
+// A capture of the rows, but for its last byte.
+fn capture<R: Abort + AllocGlobal>(rt: &R) -> Vec<u8> {
     let mut bytes = HEADER.to_vec(rt.alloc()).expect(rt, "memory");
     for row in &ROWS {
         put_row(rt, &mut bytes, row);
     }
     bytes.pop();
+    bytes
+}
+
+// A shelf with that capture.
+fn shelf<R: Abort + AllocGlobal>(rt: &R) -> MemShelf {
     let mut shelf = MemShelf::new(rt.alloc());
-    shelf.put_file("rows", bytes).expect(rt, "memory");
+    shelf.put_file("rows", capture(rt)).expect(rt, "memory");
     shelf
 }
 
@@ -279,6 +284,28 @@ fn wanted(input: u32, index: u32, row: &Row) -> Option<Result<Pkt, Reason>> {
     of_input.map(|fate| fate.map(|(port, colour)| packet(input, index, port, colour, row)))
 }
 
+fn row_at(index: u32) -> &'static Row
+    requires { index < 12 }
+{
+    &ROWS[index as usize]
+}
+
+// Compares what was received of the row of an index.
+fn compare<R: Abort + AllocGlobal>(
+    rt: &R,
+    received: Received,
+    slots: &mut Slots,
+    input: u32,
+    index: u32,
+)
+    requires index { index < 12 }
+    ensures { slots.new.slot_bytes ≡ slots.old.slot_bytes }
+{
+    let row = row_at(index);
+    let found = seen(rt, received, slots, row);
+    same(rt, &found, &wanted(input, index, row), row.note);
+}
+
 fn receive<R: Abort + AllocGlobal + Wait, S: Source>(
     rt: &R,
     p: &Profile,
@@ -295,11 +322,9 @@ fn receive<R: Abort + AllocGlobal + Wait, S: Source>(
     ensures slots { slots.new.slot_bytes ≡ slots.old.slot_bytes }
     ensures marking { IsMarking p.now rx.new.read marker.new }
 {
-    let row = &ROWS[index as usize];
     let input = rx.input;
     let received = rx.turn(rt, p, slots, marker).expect(rt, "memory");
-    let found = seen(rt, received, slots, row);
-    same(rt, &found, &wanted(input, index, row), row.note);
+    compare(rt, received, slots, input, index);
 }
 
 // The meters of a profile, and their only seat.
@@ -310,6 +335,22 @@ fn meters<R: Abort + AllocGlobal + Wait>(rt: &R, p: &Profile) -> (MeterTable, Me
     let (table, mut seats) = MeterTable::new(rt, rt.alloc(), p, 1).expect(rt, "memory");
     let seat = seats.pop().expect(rt, "a seat");
     (table, seat)
+}
+
+fn receive_each<R: Abort + AllocGlobal + Wait, S: Source>(
+    rt: &R,
+    p: &Profile,
+    rx: &mut Receiver<S>,
+    slots: &mut Slots,
+    marker: &mut Marker<'_>,
+)
+    requires reading { IsReading S.Source rx.old }
+    requires slots { slots.old.slot_bytes ≡ p.now.pool.slot_bytes }
+    requires marking { IsMarking p.now rx.old.read marker.old }
+{
+    for index in 0..12u32 {
+        receive(rt, p, rx, slots, marker, index);
+    }
 }
 
 fn receive_rows<R: Abort + AllocGlobal + Wait, S: Source>(
@@ -323,10 +364,11 @@ fn receive_rows<R: Abort + AllocGlobal + Wait, S: Source>(
     let mut slots = Slots::new(rt.alloc(), p.pool.slot_bytes);
     let (table, seat) = meters(rt, p);
     let mut marker = Marker::new(rt.alloc(), &table, seat, rx.origin);
-    for index in 0..12u32 {
-        receive(rt, p, rx, &mut slots, &mut marker, index);
-    }
+    receive_each(rt, p, rx, &mut slots, &mut marker);
     same(rt, &marker.marks.as_slice(), &marks, "the marks");
+    drop(marker);
+    drop(table);
+    drop(slots);
 }
 
 // An input of the rows, of which so many are too long for their port and so many are policed. The last record begins
@@ -355,6 +397,7 @@ fn receive_input<R: Abort + AllocGlobal + Wait>(
         &(1_000_000_500, 11, losses, stop),
         "an input",
     );
+    drop(rx);
 }
 
 #[test]
@@ -363,6 +406,7 @@ fn each_record_has_its_fate(rt: HostRuntime) {
     receive_input(&rt, &p, 0, 2, 0, &[]);
     receive_input(&rt, &p, 1, 1, 0, &[]);
     receive_input(&rt, &p, 2, 1, 3, &MARKS);
+    drop(p);
 }
 
 #[test]
@@ -374,4 +418,5 @@ fn an_absent_file_is_not_opened(rt: HostRuntime) {
         &(0, None, Stop::NotOpened),
         "an absent file",
     );
+    drop(rx);
 }

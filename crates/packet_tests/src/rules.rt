@@ -7,39 +7,17 @@ use profile_plan::Profile;
 use qos_base::Colour;
 use std::process::Abort;
 
-// A place without a meter: port, subport, pipe, queue and colour.
-fn at(port: u32, subport: u32, pipe: u32, queue: u32, pre: Colour) -> Option<Place> {
-    Some(Place {
-        port,
-        subport,
-        pipe,
-        queue,
-        pre,
-        meter: None,
-    })
+// A frame of an input, and its place.
+struct Row {
+    note: &'static str,
+    input: u32,
+    frame: Frame,
+    place: Option<Place>,
 }
 
-fn tagged(vlan: u16, frame: Frame) -> Frame {
-    Frame {
-        vlan: Some(vlan),
-        ..frame
-    }
-}
-
-// By their default entries code point 0 has queue 12, 1 has queue 13, 14 has class 7 and is red, and 46 has class 0.
-fn ipv4(src: u32, dst: u32, dscp: u8) -> Frame {
-    Frame {
-        proto: Proto::Ipv4,
-        src,
-        dst,
-        dscp,
-        ..PLAIN
-    }
-}
-
-const MPLS: Frame = Frame {
-    proto: Proto::Mpls,
-    mpls_tc: 7,
+// By the default entries code point 0 has queue 12, 1 has queue 13, 14 has class 7 and is red, and 46 has class 0.
+const IPV4: Frame = Frame {
+    proto: Proto::Ipv4,
     ..PLAIN
 };
 
@@ -49,84 +27,202 @@ const IPV6: Frame = Frame {
     ..PLAIN
 };
 
-const INPUT_1: Option<Place> = Some(Place {
-    port: 1,
+const MPLS: Frame = Frame {
+    proto: Proto::Mpls,
+    mpls_tc: 7,
+    ..PLAIN
+};
+
+const FIRST: Place = Place {
+    port: 0,
     subport: 0,
     pipe: 0,
     queue: 0,
-    pre: Colour::Yellow,
-    meter: Some(0),
-});
+    pre: Colour::Green,
+    meter: None,
+};
 
-fn check(rt: &impl Abort, p: &Profile, row: &(&str, u32, Frame, Option<Place>)) {
-    let (note, input, frame, wanted) = row;
+fn check(rt: &impl Abort, p: &Profile, row: &Row) {
+    let frame = &row.frame;
     assert!(rt; frame.dscp < 64 && frame.prio < 8 && frame.mpls_tc < 8);
-    same(rt, &place(p, *input, frame), wanted, note);
+    same(rt, &place(p, row.input, frame), &row.place, row.note);
+}
+
+fn check_each(rt: &impl Abort, p: &Profile, rows: &[Row]) {
+    for row in rows {
+        check(rt, p, row);
+    }
+}
+
+fn check_rows<R: Abort + AllocGlobal>(rt: &R, rows: &[Row]) {
+    let p = read(rt, EVERY_RULE);
+    check_each(rt, &p, rows);
+    drop(p);
 }
 
 #[test]
 fn a_rule_asks_for_input_tag_and_protocol(rt: HostRuntime) {
-    let p = read(&rt, EVERY_RULE);
-    for row in &[
-        ("input 1", 1, PLAIN, INPUT_1),
-        ("input 0, no tag", 0, PLAIN, None),
-        ("MPLS, no tag", 0, MPLS, at(0, 0, 0, 3, Colour::Green)),
-        (
-            "MPLS, VLAN 1",
-            0,
-            tagged(1, MPLS),
-            at(0, 1, 1, 12, Colour::Green),
-        ),
-        ("VLAN 0", 0, tagged(0, IPV6), at(0, 1, 1, 0, Colour::Green)),
-        (
-            "VLAN 4095",
-            0,
-            tagged(4095, PLAIN),
-            at(0, 0, 0, 15, Colour::Red),
-        ),
-        ("VLAN 4095, MPLS", 0, tagged(4095, MPLS), None),
-    ] {
-        check(&rt, &p, row);
-    }
+    let rows = &[
+        Row {
+            note: "input 1",
+            input: 1,
+            frame: PLAIN,
+            place: Some(Place {
+                port: 1,
+                pre: Colour::Yellow,
+                meter: Some(0),
+                ..FIRST
+            }),
+        },
+        Row {
+            note: "input 0, no tag",
+            input: 0,
+            frame: PLAIN,
+            place: None,
+        },
+        Row {
+            note: "MPLS, no tag",
+            input: 0,
+            frame: MPLS,
+            place: Some(Place { queue: 3, ..FIRST }),
+        },
+        Row {
+            note: "MPLS, VLAN 1",
+            input: 0,
+            frame: Frame {
+                vlan: Some(1),
+                ..MPLS
+            },
+            place: Some(Place {
+                subport: 1,
+                pipe: 1,
+                queue: 12,
+                ..FIRST
+            }),
+        },
+        Row {
+            note: "VLAN 0",
+            input: 0,
+            frame: Frame {
+                vlan: Some(0),
+                ..IPV6
+            },
+            place: Some(Place {
+                subport: 1,
+                pipe: 1,
+                ..FIRST
+            }),
+        },
+        Row {
+            note: "VLAN 4095",
+            input: 0,
+            frame: Frame {
+                vlan: Some(4095),
+                ..PLAIN
+            },
+            place: Some(Place {
+                queue: 15,
+                pre: Colour::Red,
+                ..FIRST
+            }),
+        },
+        Row {
+            note: "VLAN 4095, MPLS",
+            input: 0,
+            frame: Frame {
+                vlan: Some(4095),
+                ..MPLS
+            },
+            place: None,
+        },
+    ];
+    check_rows(&rt, rows);
 }
 
 #[test]
 fn a_rule_asks_for_addresses_and_a_pipe(rt: HostRuntime) {
-    let p = read(&rt, EVERY_RULE);
-    for row in &[
-        (
-            "VLAN 2, IPv6",
-            0,
-            tagged(2, IPV6),
-            at(0, 1, 2, 0, Colour::Green),
-        ),
-        ("VLAN 3, IPv6: no such pipe", 0, tagged(3, IPV6), None),
-        ("IPv6, no tag", 0, IPV6, None),
-        (
-            "host 2",
-            0,
-            ipv4(0x0aff_0001, 0xc0a8_1002, 14),
-            at(0, 1, 2, 7, Colour::Red),
-        ),
-        (
-            "host 3: no such pipe",
-            0,
-            ipv4(0x0aff_0001, 0xc0a8_1003, 14),
-            at(0, 0, 0, 7, Colour::Red),
-        ),
-        (
-            "another source",
-            0,
-            ipv4(0x0bff_0001, 0xc0a8_1002, 1),
-            at(0, 0, 0, 13, Colour::Green),
-        ),
-        (
-            "another destination",
-            0,
-            ipv4(0x0aff_0001, 0xc0a9_1002, 0),
-            at(0, 0, 0, 12, Colour::Green),
-        ),
-    ] {
-        check(&rt, &p, row);
-    }
+    let rows = &[
+        Row {
+            note: "VLAN 2, IPv6",
+            input: 0,
+            frame: Frame {
+                vlan: Some(2),
+                ..IPV6
+            },
+            place: Some(Place {
+                subport: 1,
+                pipe: 2,
+                ..FIRST
+            }),
+        },
+        Row {
+            note: "VLAN 3, IPv6: no such pipe",
+            input: 0,
+            frame: Frame {
+                vlan: Some(3),
+                ..IPV6
+            },
+            place: None,
+        },
+        Row {
+            note: "IPv6, no tag",
+            input: 0,
+            frame: IPV6,
+            place: None,
+        },
+        Row {
+            note: "host 2",
+            input: 0,
+            frame: Frame {
+                src: 0x0aff_0001,
+                dst: 0xc0a8_1002,
+                dscp: 14,
+                ..IPV4
+            },
+            place: Some(Place {
+                subport: 1,
+                pipe: 2,
+                queue: 7,
+                pre: Colour::Red,
+                ..FIRST
+            }),
+        },
+        Row {
+            note: "host 3: no such pipe",
+            input: 0,
+            frame: Frame {
+                src: 0x0aff_0001,
+                dst: 0xc0a8_1003,
+                dscp: 14,
+                ..IPV4
+            },
+            place: Some(Place {
+                queue: 7,
+                pre: Colour::Red,
+                ..FIRST
+            }),
+        },
+        Row {
+            note: "another source",
+            input: 0,
+            frame: Frame {
+                src: 0x0bff_0001,
+                dst: 0xc0a8_1002,
+                dscp: 1,
+                ..IPV4
+            },
+            place: Some(Place { queue: 13, ..FIRST }),
+        },
+        Row {
+            note: "another destination",
+            input: 0,
+            frame: Frame {
+                src: 0x0aff_0001,
+                dst: 0xc0a9_1002,
+                ..IPV4
+            },
+            place: Some(Place { queue: 12, ..FIRST }),
+        },
+    ];
+    check_rows(&rt, rows);
 }

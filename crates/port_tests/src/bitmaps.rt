@@ -1,5 +1,6 @@
 //! Bits set and looked for; what is found is worked out by hand.
 ghost use Rattle.std.specs.Prelude.{◌≡◌, ◌<◌, length};
+ghost use Rattle.active_bitmap.specs.declared.bitmap.TheConstants.{MAX_BITS};
 
 use crate::check::same;
 use active_bitmap::{ActiveBitmap, MAX_BITS};
@@ -23,7 +24,7 @@ fn finds<L: Ledger>(
 }
 
 // Two bits in a bitmap of the greatest size, the bit from which is looked, and the bit that is found.
-const ROWS: [(u32, u32, u32, u32); 9] = [
+static ROWS: [(u32, u32, u32, u32); 9] = [
     (5, 5, 5, 5),
     (5, 5, 6, 5),
     (0, 65_535, 1, 65_535),
@@ -35,20 +36,47 @@ const ROWS: [(u32, u32, u32, u32); 9] = [
     (4_000, 60_000, 60_001, 4_000),
 ];
 
+fn set_both(bitmap: &mut ActiveBitmap, one: u32, other: u32)
+    requires one { one < length bitmap.old }
+    requires other { other < length bitmap.old }
+    ensures { length bitmap.new ≡ length bitmap.old }
+{
+    bitmap.set(one);
+    bitmap.set(other);
+}
+
+fn clear_both(bitmap: &mut ActiveBitmap, one: u32, other: u32)
+    requires one { one < length bitmap.old }
+    requires other { other < length bitmap.old }
+    ensures { length bitmap.new ≡ length bitmap.old }
+{
+    bitmap.clear(one);
+    bitmap.clear(other);
+}
+
+fn two_are_found<L: Ledger>(
+    rt: &impl Abort,
+    bitmap: &mut ActiveBitmap,
+    row: (u32, u32, u32, u32),
+    steps: &mut Steps<L>,
+)
+    requires { length bitmap.old ≡ MAX_BITS }
+{
+    let (one, other, from, found) = row;
+    assert!(rt; one < MAX_BITS && other < MAX_BITS && from < MAX_BITS);
+    set_both(bitmap, one, other);
+    finds(rt, bitmap, from, Some(found), steps);
+    clear_both(bitmap, one, other);
+    finds(rt, bitmap, from, None, steps);
+}
+
 fn row_is_found<R: AllocGlobal + Abort, L: Ledger>(
     rt: &R,
     row: (u32, u32, u32, u32),
     steps: &mut Steps<L>,
 ) {
-    let (one, other, from, found) = row;
-    assert!(rt; one < MAX_BITS && other < MAX_BITS && from < MAX_BITS);
     let mut bitmap = ActiveBitmap::new(rt.alloc(), MAX_BITS).expect(rt, "memory");
-    bitmap.set(one);
-    bitmap.set(other);
-    finds(rt, &bitmap, from, Some(found), steps);
-    bitmap.clear(one);
-    bitmap.clear(other);
-    finds(rt, &bitmap, from, None, steps);
+    two_are_found(rt, &mut bitmap, row, steps);
 }
 
 // A bit alone is found from its own place and from each side of it, and no more once it is cleared.
@@ -87,8 +115,8 @@ fn all_are_found<R: AllocGlobal + Abort, L: Ledger>(rt: &R, blank: Blank)
     requires some { 0 < L.parts }
 {
     let mut steps = Steps::<L>::new(blank);
-    for row in ROWS {
-        row_is_found(rt, row, &mut steps);
+    for row in &ROWS {
+        row_is_found(rt, *row, &mut steps);
     }
     for bits in [1, 2, 64, 65, 4_096] {
         each_is_found(rt, bits, &mut steps);

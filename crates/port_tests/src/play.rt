@@ -1,8 +1,10 @@
 //! A port that is played step by step.
 use crate::check::same;
-use crate::profiles::profile_of;
+use crate::profiles::read;
 use port_sched::PortSched;
 use qos_base::{Colour, Departure, Pkt, Steps};
+use qos_profile::Profile;
+use std::alloc::Global;
 use std::process::Abort;
 use std::sync::ledger::Ledger;
 
@@ -10,7 +12,7 @@ use std::sync::ledger::Ledger;
 pub type Place = (u32, u32, u32);
 
 /// A step of a row. A packet is told by a number.
-#[derive(Clone, Copy, Debug)]
+#[derive(Clone, Copy)]
 pub enum Step<'a> {
     /// A packet arrives at a place, with so many bytes, and joins the queue.
     Joins(u32, Place, u32),
@@ -23,7 +25,7 @@ pub enum Step<'a> {
 }
 
 /// A profile, and what its port 0 does step by step.
-#[derive(Clone, Copy, Debug)]
+#[derive(Clone, Copy)]
 pub struct Row<'a> {
     pub note: &'a str,
     pub profile: &'a str,
@@ -46,17 +48,24 @@ fn packet(name: u32, place: Place, wire: u32) -> Pkt {
     }
 }
 
+fn start(rt: &impl Abort, alloc: Global, profile: &Profile) -> PortSched<Pkt> {
+    assert!(rt; profile.ports.as_slice().len() > 0);
+    PortSched::new(alloc, profile, 0).expect(rt, "memory")
+}
+
 fn port_of<R: Abort + AllocGlobal>(rt: &R, text: &str) -> PortSched<Pkt> {
-    let profile = profile_of(rt, text);
-    PortSched::new(rt.alloc(), &profile, 0).expect(rt, "memory")
+    let profile = read(rt, text);
+    start(rt, rt.alloc(), &profile)
 }
 
-fn arrives(rt: &impl Abort, port: &mut PortSched<Pkt>, packet: Pkt) -> Option<u32> {
+// A packet arrives, and this one comes back, if any.
+fn arrives(rt: &impl Abort, port: &mut PortSched<Pkt>, packet: Pkt, back: Option<u32>, note: &str) {
     assert!(rt; port.has_place(&packet));
-    port.arrive(packet).err().map(|full| full.parcel.index)
+    let came = port.arrive(packet).err().map(|full| full.parcel.index);
+    same(rt, &came, &back, note);
 }
 
-fn sends<L: Ledger>(
+fn dequeue<L: Ledger>(
     rt: &impl Abort,
     port: &mut PortSched<Pkt>,
     moment: u64,
@@ -70,20 +79,27 @@ fn sends<L: Ledger>(
     port.dequeue(moment, room, out, steps)
 }
 
+fn is_sent(rt: &impl Abort, departure: &Departure<Pkt>, wanted: (u32, u64), note: &str) {
+    same(rt, &(departure.parcel.index, departure.time), &wanted, note);
+}
+
 fn are_sent(rt: &impl Abort, out: &[Departure<Pkt>], wanted: &[(u32, u64)], note: &str) {
     same(rt, &out.len(), &wanted.len(), note);
-    for (departure, (name, time)) in out.iter().zip(wanted) {
-        let seen = (departure.parcel.index, departure.time);
-        same(rt, &seen, &(*name, *time), note);
+    for (departure, wanted) in out.iter().zip(wanted) {
+        is_sent(rt, departure, *wanted, note);
     }
+}
+
+fn is_drained(rt: &impl Abort, port: &mut PortSched<Pkt>, name: Option<u32>, note: &str) {
+    same(rt, &port.drain_out().map(|p| p.index), &name, note);
 }
 
 fn drain(rt: &impl Abort, port: &mut PortSched<Pkt>, names: &[u32], note: &str) {
     same(rt, &port.queued(), &(names.len() as u64), note);
     for name in names {
-        same(rt, &port.drain_out().map(|p| p.index), &Some(*name), note);
+        is_drained(rt, port, Some(*name), note);
     }
-    same(rt, &port.drain_out().map(|p| p.index), &None, note);
+    is_drained(rt, port, None, note);
     same(rt, &port.queued(), &0, note);
 }
 
@@ -96,23 +112,15 @@ fn take_step<L: Ledger>(
     note: &str,
 ) {
     match *step {
-        Step::Joins(name, place, wire) => {
-            same(
-                rt,
-                &arrives(rt, port, packet(name, place, wire)),
-                &None,
-                note,
-            );
-        }
+        Step::Joins(name, place, wire) => arrives(rt, port, packet(name, place, wire), None, note),
         Step::TurnedAway(name, place, wire) => {
-            let back = arrives(rt, port, packet(name, place, wire));
-            same(rt, &back, &Some(name), note);
+            arrives(rt, port, packet(name, place, wire), Some(name), note)
         }
         Step::Sends(moment, room, wanted, time) => {
-            let sent = sends(rt, port, moment, room, out, steps);
-            same(rt, &(sent as usize), &wanted.len(), note);
+            let sent = dequeue(rt, port, moment, room, out, steps);
+            let seen = (sent as usize, port.time());
+            same(rt, &seen, &(wanted.len(), time), note);
             are_sent(rt, out.as_slice(), wanted, note);
-            same(rt, &port.time(), &time, note);
         }
         Step::Left(names) => drain(rt, port, names, note),
     }

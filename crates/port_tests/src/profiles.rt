@@ -1,16 +1,10 @@
 //! The profiles of the rows. All have one port on a line of 10^9 bytes per second.
-ghost use Rattle.std.specs.Prelude.{◌<◌, length};
-
 use qos_profile::{Profile, read_profile};
 use std::process::Abort;
 
-/// The profile of a text. It has a port.
-pub fn profile_of<R: Abort + AllocGlobal>(rt: &R, text: &str) -> Profile
-    ensures { 0 < length result.ports }
-{
-    let profile = read_profile(rt.alloc(), text.as_bytes()).expect(rt, "a profile");
-    assert!(rt; profile.ports.as_slice().len() > 0);
-    profile
+/// The profile of a text.
+pub fn read<R: Abort + AllocGlobal>(rt: &R, text: &str) -> Profile {
+    read_profile(rt.alloc(), text.as_bytes()).expect(rt, "a profile")
 }
 
 /// Two pipes, and credits for all.

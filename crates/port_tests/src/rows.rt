@@ -313,7 +313,7 @@ const WEIGHTS_ROW: Row<'static> = Row {
     ],
 };
 
-const ROWS: [Row<'static>; 12] = [
+static ROWS: [Row<'static>; 12] = [
     TWO_PIPES_ROW,
     BUCKET_ROW,
     FAST_BUCKET_ROW,
@@ -334,8 +334,8 @@ fn all_rows<R: Abort + AllocGlobal, L: Ledger>(rt: &R, blank: Blank)
     requires some { 0 < L.parts }
 {
     let mut steps = Steps::<L>::new(blank);
-    for row in ROWS {
-        play(rt, &row, &mut steps);
+    for row in &ROWS {
+        play(rt, row, &mut steps);
     }
 }
 

@@ -1,3 +1,4 @@
+use Rattle.port_egress.specs.Run.{Setup}
 use Rattle.packet_tests.proofs.egress.begun.Goals as goal
 
 pub begin-requires : goal.begin-requires
@@ -10,4 +11,5 @@ pub returns : goal.returns
 returns g c =
     let new = rw c.expect-egress.ensures at c.new.ensures in
     let unbegun = new c.port-plan.result.now c.port-plan.ensures.value in
-    c.begin.ensures.ready _ unbegun
+    let setup : Setup = record { profile = c.args.p.now; plan = c.port-plan.result.now; origin = 100000000000 } in
+    c.begin.ensures.ready setup unbegun

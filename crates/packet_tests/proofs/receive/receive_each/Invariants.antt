@@ -1,7 +1,7 @@
 use Rattle.std.proofs.Common.{◌≡◌}
 use Rattle.pkt_receive.specs.Marks.{IsMarking}
 use Rattle.pkt_receive.specs.Receiver.{IsReading}
-use Rattle.packet_tests.proofs.receive.receive_rows.Given as goal
+use Rattle.packet_tests.proofs.receive.receive_each.Given as goal
 
 abbrev pub invariant-loop-index : goal.invariant-loop-index
 invariant-loop-index g l = record {
