@@ -11,7 +11,8 @@ use Rattle.queue_store.specs.Queues.{Queues, list_of}
 use Rattle.wrr_pick.specs.RoundRobin.{picked_queue, tokens_after_pick, tokens_after_send, tokens_once_empty}
 use Rattle.port_sched.specs.Sends.{total_cost, sends_from, longest_front}
 use Rattle.port_sched.specs.Level.{level_paid}
-use Rattle.port_sched.specs.Pipe.{Pipe, is_filled, has_packet, filled}
+use Rattle.port_sched.specs.Pipe.{Pipe, has_packet, filled}
+use Rattle.queue_store.specs.Queues.{is_filled}
 use Rattle.port_sched.specs.Classes.{Visit, with_sent, front_sent, four_allow, best_effort_allows, share_paid, best_effort_waits, after_pick, next_front, before, picked, front_drawn, draw, draws, after_draws, strict_turn, best_effort_turn, classes_turn}
 use Rattle.port_sched.specs.Parcels.{seen_send}
 use Rattle.port_sched.specs.PortLaws.{seen_queues, seen_pipe}

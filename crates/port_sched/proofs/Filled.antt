@@ -1,12 +1,12 @@
 -- Which queues have a packet.
-use Rattle.std.proofs.Common.{◌≡◌, ◌<◌, ◌≤◌, ℕ, zero, suc, Some, ◌+◌, ◌-◌, Bool, true, false, not, List, [], ◌∷◌, take, drop, length, get_or, map, sym, ap, ◌∙◌, arith, drop-cons, eqb, ltb, ◌||◌, ⊎_elim}
-use Rattle.std.specs.List.{list_any}
+use Rattle.std.proofs.Common.{◌≡◌, ◌<◌, ◌≤◌, ℕ, zero, suc, Some, ◌+◌, ◌-◌, Bool, true, false, not, List, [], ◌∷◌, take, drop, length, get_or, map, refl, sym, ap, ◌∙◌, arith, drop-cons, eqb, ltb, ◌||◌, ⊎_elim}
+use Rattle.std.specs.List.{list_any, flat_map}
 use Rattle.std.proofs.lemmas.Bool.{cases_lt}
 use Rattle.std.proofs.lemmas.Bool.Decides.{nat_tests}
 use Rattle.std.proofs.lemmas.List.{get_or-drop, length-drop, take_all, drop_all, get_or_past, length-map, get_or-map}
 use Rattle.std.proofs.lemmas.List.Folds.{list_any_more, list_any_at, Any-from_list_any}
 use Rattle.std.specs.Prelude.{slice_get, Contains}
-use Rattle.port_sched.specs.Pipe.{is_filled}
+use Rattle.queue_store.specs.Queues.{is_filled}
 
 some-test : (n : ℕ) → 0 < n → not (eqb n 0) ≡ true
 some-test n some = grind (arith, nat_tests)
@@ -72,6 +72,15 @@ module _ {T : Type 0} where
       let some = filled-at (drop 12 lists) k is in
       let here = ap length (get_or-drop 12 lists k []) in
       omega arith
+
+  -- where none is filled no packet waits
+  pub none-left : (lists : List (List T)) → list_any is_filled lists ≡ false → flat_map (λ ts. ts) lists ≡ []
+  none-left [] none = refl
+  none-left ([] ∷ lists) none = none-left lists none
+  none-left ((t ∷ ts) ∷ lists) none =
+      let full = some-test (length (t ∷ ts)) (omega arith) in
+      let both : true ≡ false = ap (λ b. b || list_any is_filled lists) (sym full) ∙ none in
+      absurd (cc)
 
   -- where a packet waits one of the queues is filled
   pub some-filled : (xs : List (List T)) → list_any is_filled xs ≡ true → Contains (map is_filled xs) true

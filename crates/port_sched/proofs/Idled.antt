@@ -8,7 +8,8 @@ use Rattle.std.proofs.lemmas.List.Elements.{All-get_or}
 use Rattle.qos_base.specs.declared.packet.Pkt.{Pkt}
 use Rattle.active_bitmap.specs.NextActive.{next_active}
 use Rattle.active_bitmap.specs.Laws.{NextIsNearest}
-use Rattle.port_sched.specs.Pipe.{Pipe, is_filled, has_packet}
+use Rattle.port_sched.specs.Pipe.{Pipe, has_packet}
+use Rattle.queue_store.specs.Queues.{is_filled}
 use Rattle.port_sched.specs.Subport.{Subport, active}
 use Rattle.port_sched.specs.Port.{Port, left_in, left_in_subport, queued, pipe_of, pipe_tick, subport_tick}
 use Rattle.port_sched.specs.Renewal.{subport_renewed}

@@ -12,7 +12,8 @@ use Rattle.wrr_pick.specs.RoundRobin.{lowered, picked_queue, tokens_after_pick}
 use Rattle.queue_store.specs.Queues.{list_of}
 use Rattle.port_sched.specs.Sends.{total_cost, longest_front}
 use Rattle.port_sched.specs.Level.{level_renewed}
-use Rattle.port_sched.specs.Pipe.{Pipe, is_filled, filled}
+use Rattle.port_sched.specs.Pipe.{Pipe, filled}
+use Rattle.queue_store.specs.Queues.{is_filled}
 use Rattle.port_sched.specs.Subport.{Subport}
 use Rattle.port_sched.specs.Port.{Port, left_in, left_in_subport, left_of, pipe_tick, subport_tick}
 use Rattle.port_sched.specs.Renewal.{has_seen, subport_renewed, pipe_renewed}

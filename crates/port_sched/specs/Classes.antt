@@ -8,7 +8,8 @@ use Rattle.queue_store.specs.Queues.{list_of, without_front, with_list}
 use Rattle.wrr_pick.specs.RoundRobin.{picked_queue, tokens_after_pick, tokens_after_send, tokens_once_empty}
 use Rattle.port_sched.specs.Sends.{total_cost, sends_from, longest_front}
 use Rattle.port_sched.specs.Level.{Level, allowance, level_paid}
-use Rattle.port_sched.specs.Pipe.{Pipe, is_filled, filled}
+use Rattle.port_sched.specs.Pipe.{Pipe, filled}
+use Rattle.queue_store.specs.Queues.{is_filled}
 
 -- a visit of a pipe: how the subport and the pipe stand, port time, how many packets may still be sent, and those that were
 pub record Visit (T : Type 0) : Type 0 where

@@ -1,8 +1,7 @@
 -- A pipe, which is a subscriber: its level, the round robin of its best effort queues, and its sixteen queues. Queues 0 to 11
 -- are those of classes 0 to 11, and queues 12 to 15 those of best effort.
-use Rattle.std.specs.Prelude.{ℕ, ◌==◌, Bool, not, List, [], ◌∷◌, ◌++◌, length, drop, map, slice_index, Option, None}
-use Rattle.std.specs.List.{list_any}
-use Rattle.queue_store.specs.Queues.{Queues, empty_queues}
+use Rattle.std.specs.Prelude.{ℕ, Bool, List, [], ◌∷◌, ◌++◌, drop, map, slice_index, Option, None}
+use Rattle.queue_store.specs.Queues.{Queues, empty_queues, is_filled, has_packet as some_filled}
 use Rattle.wrr_pick.specs.Multiple.{factors_of}
 use Rattle.wrr_pick.specs.RoundRobin.{RoundRobin}
 use Rattle.profile_plan.specs.declared.shaping.PipeKind.{PipeKind}
@@ -39,12 +38,9 @@ pipe_start line sizes kind = record {
 }
 
 module _ {T : Type 0} where
-  abbrev pub is_filled : List T → Bool
-  is_filled ts = not (length ts == 0)
-
   -- a packet waits in one of the queues
   abbrev pub has_packet : Pipe T → Bool
-  has_packet p = list_any is_filled p.queues.lists
+  has_packet p = some_filled p.queues
 
   -- which best effort queues have a packet
   abbrev pub filled : Pipe T → List Bool

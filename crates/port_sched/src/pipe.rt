@@ -1,9 +1,8 @@
 //! A pipe, which is a subscriber.
-ghost use Rattle.std.specs.Prelude.{◌≡◌, ◌+◌, ◌≤◌, ◌<◌, ◌^◌, length, drop, slice_index, true};
-ghost use Rattle.std.specs.List.{list_any};
+ghost use Rattle.std.specs.Prelude.{◌≡◌, ◌+◌, ◌≤◌, ◌<◌, ◌^◌, length, slice_index, true};
 ghost use Rattle.queue_store.specs.Queues.{list_of};
 ghost use Rattle.wrr_pick.specs.declared.wrr.TheConstants.{MAX_COST};
-ghost use Rattle.port_sched.specs.Pipe.{has_packet, filled, is_filled};
+ghost use Rattle.port_sched.specs.Pipe.{has_packet, filled};
 ghost use Rattle.port_sched.specs.Classes.{best_effort_waits, charged, share_paid};
 ghost use Rattle.port_sched.specs.Books.{pipe_of};
 
@@ -43,29 +42,19 @@ impl<T: Parcel> PipeBooks<T> {
         ]
     }
 
+    // Whether a packet waits in one of the queues.
+    pub(crate) fn has_packet(&self) -> bool
+        ensures { result ≡ has_packet (pipe_of self.now) }
+    {
+        self.queues.has_packet()
+    }
+
     // Whether a packet waits in one of the best effort queues.
     pub(crate) fn best_effort_waits(&self) -> bool
         requires { length self.now.queues.lists ≡ 16 }
         ensures { result ≡ best_effort_waits (pipe_of self.now) }
     {
-        self.any_filled(FIRST_BEST_EFFORT)
-    }
-
-    // Whether a packet waits in one of the queues.
-    pub(crate) fn has_packet(&self) -> bool
-        requires { length self.now.queues.lists ≡ 16 }
-        ensures { result ≡ has_packet (pipe_of self.now) }
-    {
-        self.any_filled(0)
-    }
-
-    // Whether a packet waits in a queue from this one on.
-    fn any_filled(&self, from: u32) -> bool
-        requires queues { length self.now.queues.lists ≡ 16 }
-        requires from { from ≤ 16 }
-        ensures { result ≡ list_any is_filled (drop from self.now.queues.lists) }
-    {
-        for queue in from..PIPE_QUEUES {
+        for queue in FIRST_BEST_EFFORT..PIPE_QUEUES {
             if self.queues.len(queue) > 0 {
                 return true;
             }

@@ -25,7 +25,6 @@ pub(crate) struct SubportBooks<T: Parcel> {
 impl<T: Parcel> SubportBooks<T> {
     // How many pipes have a packet.
     pub(crate) fn active(&self) -> usize
-        requires { All (λ p. length p.queues.lists ≡ 16) self.now.pipes.items }
         ensures { result ≡ count_by has_packet (subport_of self.now).pipes }
     {
         let mut count = 0;
@@ -39,8 +38,7 @@ impl<T: Parcel> SubportBooks<T> {
 
     // The next pipe with a packet, from the cursor on; None where no pipe has one.
     pub(crate) fn next_pipe(&self) -> Option<usize>
-        requires cursor { self.now.cursor < length self.now.pipes.items }
-        requires queues { All (λ p. length p.queues.lists ≡ 16) self.now.pipes.items }
+        requires { self.now.cursor < length self.now.pipes.items }
         ensures { result ≡ next_active self.now.cursor (active (subport_of self.now)) }
     {
         let pipes = self.pipes.len();

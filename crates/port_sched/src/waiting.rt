@@ -72,6 +72,9 @@ impl<T: Parcel> PipeBooks<T> {
         ensures exact { result ≡ length (left_in (pipe_of self.now)) }
         ensures limit { result ≤ 2 ^ 36 }
     {
+        if !self.has_packet() {
+            return 0;
+        }
         let mut total = 0;
         for queue in 0..PIPE_QUEUES {
             total += u64::from(self.queues.len(queue));
@@ -87,6 +90,9 @@ impl<T: Parcel> PipeBooks<T> {
         ensures same { pipe_emptied (pipe_of self.new) ≡ pipe_emptied (pipe_of self.old) }
         ensures sound { (ticked : ℕ) → IsPipeBooks T.packet ticked self.old → IsPipeBooks T.packet ticked self.new }
     {
+        if !self.has_packet() {
+            return None;
+        }
         for queue in 0..PIPE_QUEUES {
             if let Some(t) = self.queues.pop(queue) {
                 return Some(t);

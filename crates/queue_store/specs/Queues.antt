@@ -1,5 +1,6 @@
 -- Queues of packets by number: how many each may hold, and what waits in it.
-use Rattle.std.specs.Prelude.{ℕ, List, [], ◌∷◌, ◌++◌, map, drop, slice_index, slice_index_or, slice_set}
+use Rattle.std.specs.Prelude.{ℕ, ◌==◌, Bool, not, List, [], ◌∷◌, ◌++◌, length, map, drop, slice_index, slice_index_or, slice_set}
+use Rattle.std.specs.List.{list_any}
 
 -- the sizes of the queues in packets, and the list that waits in each, the oldest packet first
 pub record Queues (T : Type 0) : Type 0 where
@@ -30,3 +31,11 @@ module _ {T : Type 0} where
   -- the packet at the front of a queue, if any, has left it
   abbrev pub without_front : ℕ → Queues T → Queues T
   without_front queue s = with_list queue (drop 1 (list_of queue s)) s
+
+  -- whether a packet waits in a queue that has this list
+  abbrev pub is_filled : List T → Bool
+  is_filled packets = not (length packets == 0)
+
+  -- whether a packet waits in any queue
+  abbrev pub has_packet : Queues T → Bool
+  has_packet s = list_any is_filled s.lists

@@ -14,21 +14,23 @@ use std::marker::Model;
 #[derive(Drop)]
 pub struct QueueStore<T: Parcel> {
     rings: Vec<HeapCircularBuffer<T>>,
+    // how many queues have a packet
+    filled: usize,
 }
 
 impl<T: Parcel> Model for QueueStore<T> {
     ghost use Rattle.queue_store.specs.Queues.{Queues};
-    ghost use Rattle.queue_store.specs.Rings.{queues_of, AreWithin};
+    ghost use Rattle.queue_store.specs.Rings.{queues_of, IsStore};
 
     ghost Value = { Queues T };
 
     ghost view = { λ s. queues_of s.rings.items };
 
-    ghost invariant = { λ s. AreWithin s.rings.items };
+    ghost invariant = { λ s. IsStore s.rings.items s.filled };
 }
 
 impl<T: Parcel> QueueStore<T> {
-    ghost use Rattle.queue_store.specs.Queues.{Queues, empty_queues, size_of, list_of, joined, without_front};
+    ghost use Rattle.queue_store.specs.Queues.{Queues, empty_queues, size_of, list_of, joined, without_front, has_packet};
 
     /// Empty queues of these sizes, in packets. A queue of size 0 is closed: it turns every packet away.
     ///
@@ -41,7 +43,7 @@ impl<T: Parcel> QueueStore<T> {
         for size in sizes {
             rings.push(HeapCircularBuffer::with_capacity(alloc, *size as usize)?)?;
         }
-        Ok(QueueStore { rings })
+        Ok(QueueStore { rings, filled: 0 })
     }
 
     /// A packet joins the back of a queue. A queue that holds as many packets as its size gives it back
@@ -53,8 +55,12 @@ impl<T: Parcel> QueueStore<T> {
         ensures refused { IfErr result (λ e. (e.parcel ≡ t) × (self.new ≡ self.old)) }
     {
         let ring = &mut self.rings[queue as usize];
+        let first = ring.is_empty();
         match ring.try_push_back(t) {
-            Ok(()) => Ok(()),
+            Ok(()) => {
+                self.filled += usize::from(first);
+                Ok(())
+            }
             Err(parcel) => Err(TailFull { parcel }),
         }
     }
@@ -74,7 +80,11 @@ impl<T: Parcel> QueueStore<T> {
         ensures rest { self.new ≡ without_front queue self.old }
     {
         let ring = &mut self.rings[queue as usize];
-        ring.pop_front()
+        let popped = ring.pop_front()?;
+        if ring.is_empty() {
+            self.filled -= 1;
+        }
+        Some(popped)
     }
 
     /// How many packets wait in a queue; at most its size.
@@ -84,5 +94,11 @@ impl<T: Parcel> QueueStore<T> {
         ensures within { result ≤ size_of queue self.now }
     {
         self.rings[queue as usize].len() as u32
+    }
+    /// Whether a packet waits in any queue.
+    pub fn has_packet(&self) -> bool
+        ensures { result ≡ has_packet self.now }
+    {
+        self.filled > 0
     }
 }

@@ -6,6 +6,7 @@ use Rattle.port_sched.specs.Books.{pipe_of, IsPipeBooks}
 use Rattle.port_sched.specs.Port.{pipe_emptied}
 use Rattle.port_sched.proofs.Pieces.{Drains, first-drained, rest-drained}
 use Rattle.port_sched.proofs.Places.{pipe-drained, pipe-same}
+use Rattle.port_sched.proofs.Filled.{none-left}
 use Rattle.port_sched.proofs.pipe.PipeBooks.drain_out.Goals as goal
 use Rattle.port_sched.proofs.pipe.PipeBooks.drain_out.Goals.{In-Some}
 use Rattle.port_sched.proofs.pipe.PipeBooks.drain_out.Given.{Over}
@@ -25,6 +26,15 @@ drains g c =
       first = c.in-Some.ensures.first;
       rest = refl;
     }
+
+pub returns-then-not-has_packet-clause-first : goal.returns-then-not-has_packet-clause-first
+returns-then-not-has_packet-clause-first g c =
+    sym (ap (λ ts. slice_get ts 0) (none-left c.args.self.now.queues.lists (sym c.has_packet.ensures ∙ c.if-not-has_packet.true)))
+
+pub returns-then-not-has_packet-clause-rest : goal.returns-then-not-has_packet-clause-rest
+returns-then-not-has_packet-clause-rest g c =
+    let none = none-left c.args.self.now.queues.lists (sym c.has_packet.ensures ∙ c.if-not-has_packet.true) in
+    none ∙ sym (ap (drop 1) none)
 
 pub returns-in-Some-clause-first : goal.returns-in-Some-clause-first
 returns-in-Some-clause-first g c =

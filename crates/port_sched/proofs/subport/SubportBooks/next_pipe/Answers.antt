@@ -7,7 +7,7 @@ loop-ahead-preserved g c =
     let s = c.args.self.now in
     let all : c.len-pipes.result ≡ length s.pipes.items = omega (arith, c.len-pipes.ensures, s.pipes.ok.0) in
     let here =
-    pipe-ahead s c.requires.cursor c.len-pipes.result all c.loop-ahead.ahead c.index.result.now c.loop-ahead-test.true
+    pipe-ahead s c.requires c.len-pipes.result all c.loop-ahead.ahead c.index.result.now c.loop-ahead-test.true
     c.index.ensures in
     below_more _ _ c.loop-ahead.invariant (here ∙ sym c.has_packet.ensures ∙ c.if-has_packet.false)
 
@@ -16,13 +16,13 @@ returns-then-has_packet g c =
     let s = c.args.self.now in
     let all : c.len-pipes.result ≡ length s.pipes.items = omega (arith, c.len-pipes.ensures, s.pipes.ok.0) in
     let here =
-    pipe-ahead s c.requires.cursor c.len-pipes.result all c.loop-ahead.ahead c.index.result.now c.loop-ahead-test.true
+    pipe-ahead s c.requires c.len-pipes.result all c.loop-ahead.ahead c.index.result.now c.loop-ahead-test.true
     c.index.ensures in
-    next_pipe-found s c.requires.cursor c.len-pipes.result all c.loop-ahead.ahead c.loop-ahead-test.true c.loop-ahead.invariant
+    next_pipe-found s c.requires c.len-pipes.result all c.loop-ahead.ahead c.loop-ahead-test.true c.loop-ahead.invariant
     (here ∙ sym c.has_packet.ensures ∙ c.if-has_packet.true)
 
 pub returns : goal.returns
 returns g c =
     let s = c.args.self.now in
     let all : c.len-pipes.result ≡ length s.pipes.items = omega (arith, c.len-pipes.ensures, s.pipes.ok.0) in
-    next_pipe-none s c.requires.cursor c.len-pipes.result all c.loop-ahead.ahead c.loop-ahead-test.false c.loop-ahead.invariant
+    next_pipe-none s c.requires c.len-pipes.result all c.loop-ahead.ahead c.loop-ahead-test.false c.loop-ahead.invariant
