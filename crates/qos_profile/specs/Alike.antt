@@ -1,5 +1,5 @@
 -- Equal heads are hashed alike, which is the law of a hash.
-use Rattle.std.specs.Prelude.{◌≡◌, ◌==◌, true, ◌&&◌}
+use Rattle.std.specs.Prelude.{◌≡◌, ◌==◌, true}
 use Rattle.std.specs.Str.{bytes_eq}
 use Rattle.std.proofs.Common.{ap, sym, refl, ◌∙◌}
 use mathlib.Core.Bool.{true≢false}
