@@ -36,16 +36,26 @@ abbrev pub meter_head : Option Name → Result Head FaultKind
 meter_head (Some name) = Ok (heads.Meter name)
 meter_head None = Err BadNumber
 
+-- the last of them: a meter, a rule or a section that is skipped
+abbrev pub last_head_of : List (List ℕ) → Result Head FaultKind
+last_head_of words =
+    if fits (codes "meter" ∷ [] ∷ []) words then meter_head (name_of (word_at words 1))
+    else (if fits (codes "rule" ∷ [] ∷ []) words then numbered heads.Rule (number_at_most 255 (word_at words 1))
+    else (if fits (codes "red" ∷ []) words then Ok heads.Red
+    else Err UnknownKey))
+
+-- a subport, a pipe profile or the code points, or one of the last
+abbrev pub later_head_of : List (List ℕ) → Result Head FaultKind
+later_head_of words =
+    if fits (codes "subport" ∷ [] ∷ [] ∷ []) words then subport_head (number_of (word_at words 1)) (number_of (word_at words 2))
+    else (if fits (codes "pipe" ∷ codes "profile" ∷ [] ∷ []) words then numbered heads.PipeKind (number_at_most 255 (word_at words 2))
+    else (if fits (codes "codes" ∷ codes "dscp" ∷ []) words then Ok heads.Codes
+    else last_head_of words))
+
 -- the head that the words between brackets write
 unfoldable pub head_of : List (List ℕ) → Result Head FaultKind
 head_of words =
     if fits (codes "pool" ∷ []) words then Ok heads.Pool
     else (if fits (codes "port" ∷ [] ∷ []) words then numbered heads.Port (number_at_most 15 (word_at words 1))
     else (if fits (codes "subport" ∷ codes "profile" ∷ [] ∷ []) words then numbered heads.SubportKind (number_at_most 63 (word_at words 2))
-    else (if fits (codes "subport" ∷ [] ∷ [] ∷ []) words then subport_head (number_of (word_at words 1)) (number_of (word_at words 2))
-    else (if fits (codes "pipe" ∷ codes "profile" ∷ [] ∷ []) words then numbered heads.PipeKind (number_at_most 255 (word_at words 2))
-    else (if fits (codes "codes" ∷ codes "dscp" ∷ []) words then Ok heads.Codes
-    else (if fits (codes "meter" ∷ [] ∷ []) words then meter_head (name_of (word_at words 1))
-    else (if fits (codes "rule" ∷ [] ∷ []) words then numbered heads.Rule (number_at_most 255 (word_at words 1))
-    else (if fits (codes "red" ∷ []) words then Ok heads.Red
-    else Err UnknownKey))))))))
+    else later_head_of words))

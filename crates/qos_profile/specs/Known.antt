@@ -1,5 +1,5 @@
 -- The heads of sections, as a set, so that no line has to look through all sections.
-use Rattle.std.specs.Prelude.{◌≡◌, Bool, true, false, ◌||◌, List, ◌∷◌, [], ◌++◌, Result, Ok, Err}
+use Rattle.std.specs.Prelude.{◌≡◌, ℕ, Bool, true, false, ◌||◌, List, ◌∷◌, [], ◌++◌, Result, Ok, Err}
 use Rattle.qos_base.specs.declared.memory.NoMemory.{NoMemory}
 use Rattle.std.specs.List.{list_any}
 use Rattle.std.specs.HashSet.{HashSet}
@@ -23,6 +23,10 @@ Notes old new head (Ok true) =
     (is_red head ≡ false → list_any (same_head head) old.keys ≡ false) × ((h : Head) → is_red h ≡ false → list_any (same_head h) new.keys ≡ (same_head head h || list_any (same_head h) old.keys))
 Notes old new head (Ok false) = (is_red head ≡ false) × (list_any (same_head head) old.keys ≡ true) × (new.keys ≡ old.keys)
 Notes old new head (Err error) = new.keys ≡ old.keys
+
+-- a section that has no facts yet
+abbrev pub begun : ℕ → Head → Section
+begun line head = record { line = line; head = head; facts = [] }
 
 -- a section is added, unless one of its head is there
 abbrev pub Begins : List Section → List Section → Section → Result Bool NoMemory → Type 0

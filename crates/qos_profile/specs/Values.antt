@@ -160,12 +160,20 @@ entry_at class queue colour = entry_with (number_of class) (number_of queue) (pl
 unfoldable pub entry_of : List (List ℕ) → Result Value FaultKind
 entry_of words = if length words == 3 then entry_at (word_at words 0) (word_at words 1) (word_at words 2) else Err BadNumber
 
+-- the word `dscp`
+abbrev pub is_dscp : List (List ℕ) → Bool
+is_dscp words = length words == 1 && bytes_eq (word_at words 0) (codes "dscp")
+
+-- four words, of which the first is `fixed`
+abbrev pub is_fixed : List (List ℕ) → Bool
+is_fixed words = length words == 4 && bytes_eq (word_at words 0) (codes "fixed")
+
 -- `dscp`, or `fixed C Q COLOUR`
 unfoldable pub code_of : List (List ℕ) → Result Value FaultKind
 code_of words =
-    if length words == 1 && bytes_eq (word_at words 0) (codes "dscp")
+    if is_dscp words
     then Ok (values.Word 0)
-    else (if length words == 4 && bytes_eq (word_at words 0) (codes "fixed")
+    else (if is_fixed words
     then entry_at (word_at words 1) (word_at words 2) (word_at words 3)
     else Err BadNumber)
 

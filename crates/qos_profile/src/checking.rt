@@ -86,7 +86,11 @@ pub fn read_profile(alloc: Global, text: &[u8]) -> Result<Profile, ProfileError>
         return Err(ProfileError::Fault(with_total(text.len() as u64)));
     }
     match read_sections(alloc, text) {
-        Ok(sections) => answer(alloc, sections.as_slice()),
+        Ok(sections) => {
+            let said = answer(alloc, sections.as_slice());
+            drop(sections);
+            said
+        }
         Err(error) => Err(error),
     }
 }

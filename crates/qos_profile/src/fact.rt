@@ -12,7 +12,7 @@ use crate::value::{Value, read_value};
 use profile_lines::read_range;
 
 /// What a key line gives: slots of a group, and their value.
-#[derive(Clone, Copy, Debug)]
+#[derive(Clone, Copy)]
 pub(crate) struct Fact {
     pub line: u32,
     pub group: u8,

@@ -31,7 +31,12 @@ pub(crate) fn value_at(facts: &[Fact], group: u8, slot: u64) -> Option<Value>
 pub(crate) fn has(facts: &[Fact], group: u8, slot: u64) -> bool
     ensures { result ≡ has facts.now group slot }
 {
-    facts.iter().any(|fact| covers(group, slot, fact))
+    for fact in facts {
+        if covers(group, slot, fact) {
+            return true;
+        }
+    }
+    false
 }
 
 /// Whether lines give so many slots from 0 on.

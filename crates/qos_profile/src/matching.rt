@@ -26,7 +26,14 @@ pub(crate) fn fits(pattern: &[&str], words: &[&[u8]]) -> bool
 fn fits_word(expected: &str, word: &[u8]) -> bool
     ensures { result ≡ (length expected.now == 0 || bytes_eq expected.now word.now) }
 {
-    expected.is_empty() || expected.as_bytes() == word
+    expected.is_empty() || same_bytes(expected.as_bytes(), word)
+}
+
+/// Whether two words are the same.
+pub(crate) fn same_bytes(a: &[u8], b: &[u8]) -> bool
+    ensures { result ≡ bytes_eq a.now b.now }
+{
+    *a == *b
 }
 
 /// The word at a place.
@@ -66,7 +73,7 @@ pub(crate) fn place_among(choices: &[&str], word: &[u8]) -> Option<usize>
     ensures { result ≡ place_among (map (λ w. w.now) choices.now) word.now }
 {
     for place in 0..choices.len() {
-        if choices[place].as_bytes() == word {
+        if same_bytes(choices[place].as_bytes(), word) {
             return Some(place);
         }
     }

@@ -7,7 +7,7 @@ ghost use Rattle.profile_plan.specs.Limits.{is_name_byte};
 pub(crate) const LONGEST: usize = 32;
 
 /// A name of 1 to 32 of the letters a to z, the digits and `_`; the bytes past its length are 0.
-#[derive(Clone, Copy, Debug, PartialEq, Eq, Hash)]
+#[derive(Clone, Copy, PartialEq, Eq)]
 pub(crate) struct Name {
     pub bytes: [u8; LONGEST],
     pub length: usize,
@@ -34,7 +34,12 @@ impl Name {
 fn are_name_bytes(word: &[u8]) -> bool
     ensures { result ≡ list_all is_name_byte word.now }
 {
-    word.iter().all(|byte| is_name_byte(*byte))
+    for byte in word {
+        if !is_name_byte(*byte) {
+            return false;
+        }
+    }
+    true
 }
 
 fn is_name_byte(byte: u8) -> bool

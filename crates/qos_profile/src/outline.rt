@@ -4,7 +4,7 @@ ghost use Rattle.qos_profile.specs.Known.{Notes};
 use crate::fact::Fact;
 use crate::head::{Head, is_red};
 use crate::list::put;
-use crate::section::Section;
+use crate::section::{Facts, Section};
 use qos_base::NoMemory;
 use std::alloc::Global;
 use std::collections::HashSet;
@@ -36,7 +36,7 @@ impl Outline {
     ghost use Rattle.qos_profile.specs.Sections.{last_of};
     ghost use Rattle.qos_profile.specs.Pushes.{PushesFact};
     ghost use Rattle.qos_profile.specs.Taken.{IsFree};
-    ghost use Rattle.qos_profile.specs.Known.{Begins};
+    ghost use Rattle.qos_profile.specs.Known.{Begins, begun};
 
     /// No sections.
     pub fn new(alloc: Global) -> Outline
@@ -62,16 +62,17 @@ impl Outline {
         self.sections.last()
     }
 
-    /// Adds a section, unless one of its head is there.
-    pub fn begin(&mut self, section: Section) -> Result<bool, NoMemory>
-        ensures { Begins self.old self.new section result }
+    /// Adds a section of this head, without facts, unless one of that head is there.
+    pub fn begin(&mut self, alloc: Global, line: u32, head: Head) -> Result<bool, NoMemory>
+        ensures { Begins self.old self.new (begun line head) result }
     {
         if self.sections.reserve(1).is_err() {
             return Err(NoMemory);
         }
-        match note(&mut self.heads, section.head) {
+        match note(&mut self.heads, head) {
             Ok(true) => {
-                put(&mut self.sections, section);
+                let facts = Facts::new(alloc);
+                put(&mut self.sections, Section { line, head, facts });
                 Ok(true)
             }
             Ok(false) => Ok(false),

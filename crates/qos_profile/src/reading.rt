@@ -1,6 +1,7 @@
 //! A text to its sections, line by line.
-ghost use Rattle.std.specs.Prelude.{◌≡◌, ◌≤◌, map, length, IfOk};
+ghost use Rattle.std.specs.Prelude.{◌≡◌, ◌≤◌, [], map, length, Ok, Err, OnOk, IfOk, IfErr};
 ghost use Rattle.profile_lines.specs.Lines.{line_of, Head as HeadLine, Entry, Neither};
+ghost use Rattle.profile_lines.specs.View.{line_view};
 ghost use Rattle.qos_profile.specs.Sections.{fault_in, fault_of_neither, last_of};
 ghost use Rattle.qos_profile.specs.Steps.{Takes, ReadsSections, lines_of, error_of};
 
@@ -8,13 +9,12 @@ use crate::fact::read_fact;
 use crate::fault::{FaultKind, ProfileError, ProfileFault};
 use crate::head::{is_red, read_head};
 use crate::outline::Outline;
-use crate::section::{Facts, Section};
 use profile_lines::{Line, read_line, split_line};
 use qos_base::NoMemory;
 use std::alloc::Global;
 
 /// Why a line was not taken.
-#[derive(Clone, Copy, Debug)]
+#[derive(Clone, Copy)]
 pub(crate) enum Stop {
     Fault(FaultKind),
     NoMemory,
@@ -29,18 +29,11 @@ fn take_head(
     ensures { Takes sections.old sections.new number (HeadLine (map (λ w. w.now) words.now)) result }
 {
     match read_head(words) {
-        Ok(head) => {
-            let section = Section {
-                line: number,
-                head,
-                facts: Facts::new(alloc),
-            };
-            match sections.begin(section) {
-                Ok(true) => Ok(()),
-                Ok(false) => Err(Stop::Fault(FaultKind::Twice)),
-                Err(NoMemory) => Err(Stop::NoMemory),
-            }
-        }
+        Ok(head) => match sections.begin(alloc, number, head) {
+            Ok(true) => Ok(()),
+            Ok(false) => Err(Stop::Fault(FaultKind::Twice)),
+            Err(NoMemory) => Err(Stop::NoMemory),
+        },
         Err(fault) => Err(Stop::Fault(fault)),
     }
 }
@@ -85,14 +78,26 @@ fn take_line(alloc: Global, sections: &mut Outline, number: u32, line: &[u8]) ->
     ensures { Takes sections.old sections.new number (line_of line.now) result }
 {
     match read_line(alloc, line) {
+        Ok(read) => {
+            let taken = take_read(alloc, sections, number, &read);
+            drop(read);
+            taken
+        }
         Err(NoMemory) => Err(Stop::NoMemory),
-        Ok(Line::NotText) => Err(Stop::Fault(FaultKind::NotText)),
-        Ok(Line::Blank) => Ok(()),
-        Ok(Line::Head(words)) => take_head(alloc, sections, number, words.as_slice()),
-        Ok(Line::Entry(words, value)) => {
+    }
+}
+
+fn take_read(alloc: Global, sections: &mut Outline, number: u32, line: &Line) -> Result<(), Stop>
+    ensures { Takes sections.old sections.new number (line_view line.now) result }
+{
+    match line {
+        Line::NotText => Err(Stop::Fault(FaultKind::NotText)),
+        Line::Blank => Ok(()),
+        Line::Head(words) => take_head(alloc, sections, number, words.as_slice()),
+        Line::Entry(words, value) => {
             take_entry(sections, number, words.as_slice(), value.as_slice())
         }
-        Ok(Line::Neither) => match take_neither(sections) {
+        Line::Neither => match take_neither(sections) {
             Some(fault) => Err(Stop::Fault(fault)),
             None => Ok(()),
         },
@@ -119,16 +124,33 @@ pub(crate) fn read_sections(alloc: Global, text: &[u8]) -> Result<Outline, Profi
     ensures few { IfOk result (λ sections. length sections ≤ 1048576) }
 {
     let mut sections = Outline::new(alloc);
+    match take_lines(alloc, &mut sections, text) {
+        Ok(()) => Ok(sections),
+        Err(error) => {
+            drop(sections);
+            Err(error)
+        }
+    }
+}
+
+// Takes line after line, up to the first that is not taken.
+fn take_lines(alloc: Global, sections: &mut Outline, text: &[u8]) -> Result<(), ProfileError>
+    requires short { length text.now ≤ 1048576 }
+    requires none { sections.old ≡ [] }
+    ensures taken { OnOk result (ReadsSections (lines_of text.now) (Ok sections.new)) }
+    ensures few { OnOk result (length sections.new ≤ 1048576) }
+    ensures fault { IfErr result (λ error. ReadsSections (lines_of text.now) (Err error)) }
+{
     let mut rest = text;
     let mut number: u32 = 0;
     while !rest.is_empty() {
         let (line, after) = split_line(rest);
         number += 1;
-        match take_line(alloc, &mut sections, number, line) {
+        match take_line(alloc, sections, number, line) {
             Ok(()) => {}
             Err(stop) => return Err(error_of(number, stop)),
         }
         rest = after;
     }
-    Ok(sections)
+    Ok(())
 }

@@ -8,7 +8,7 @@ use std::collections::BTreeMap;
 use std::marker::Model;
 
 /// The facts of a section, in the order of their lines.
-#[derive(Debug, Drop)]
+#[derive(Drop)]
 pub(crate) struct Facts {
     items: Vec<Fact>,
     /// The form or kind that the first line which tells one says, so that no line has to look for it.
@@ -93,7 +93,7 @@ impl Facts {
 }
 
 /// A section of a text.
-#[derive(Debug, Drop)]
+#[derive(Drop)]
 pub(crate) struct Section {
     /// The line of its head.
     pub line: u32,

@@ -27,7 +27,10 @@ pub(crate) fn same_head(a: &Head, b: &Head) -> bool
 pub(crate) fn is_there(sections: &[Section], head: &Head) -> bool
     ensures { result ≡ is_there sections.now head.now }
 {
-    sections
-        .iter()
-        .any(|section| same_head(&section.head, head))
+    for section in sections {
+        if same_head(&section.head, head) {
+            return true;
+        }
+    }
+    false
 }

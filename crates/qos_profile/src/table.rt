@@ -3,7 +3,7 @@ ghost use Rattle.std.specs.Prelude.{◌≡◌, map};
 ghost use Rattle.qos_profile.specs.Table.{row_view, pool_keys, port_keys, subport_kind_keys, pipe_kind_keys, subport_keys, code_keys, meter_keys, rule_keys};
 
 /// What stands in place of a key's empty word.
-#[derive(Clone, Copy, Debug)]
+#[derive(Clone, Copy)]
 pub(crate) enum Place {
     /// It has none.
     Nothing,
@@ -14,7 +14,7 @@ pub(crate) enum Place {
 }
 
 /// In which forms or kinds of its section a key is listed.
-#[derive(Clone, Copy, Debug)]
+#[derive(Clone, Copy)]
 pub(crate) enum Only {
     /// In all.
     All,
@@ -27,7 +27,7 @@ pub(crate) enum Only {
 }
 
 /// The shape of a value.
-#[derive(Clone, Copy, Debug)]
+#[derive(Clone, Copy)]
 pub(crate) enum Shape {
     /// One number, from the least to the greatest.
     Number(u64, u64),
@@ -51,7 +51,7 @@ pub(crate) enum Shape {
 
 /// A key: its words, of which an empty one stands for a number or a range, the group and the slots that it
 /// gives, where it is listed, and its value.
-#[derive(Clone, Copy, Debug)]
+#[derive(Clone, Copy)]
 pub(crate) struct Row {
     pub words: &'static [&'static str],
     pub place: Place,

@@ -3,11 +3,11 @@ ghost use Rattle.std.specs.Prelude.{◌≡◌, ◌+◌, ◌-◌, ◌*◌, ◌/�
 ghost use Rattle.profile_lines.specs.Numbers.{number_of};
 ghost use Rattle.std.specs.Bool.{OnTrue};
 ghost use Rattle.std.specs.List.{list_all};
-ghost use Rattle.qos_profile.specs.Values.{in_range, number_in, as_number, as_word, numbers_in, number_or_zero, is_within, are_numbers, are_within, as_sizes, as_weights, prefix_of, prefix_at, prefix_from, prefix_with, prefix_or_any, entry_at, entry_with, entry_of, code_of, one_name, as_name, value_of, is_place, colour_at, masked, address_of};
+ghost use Rattle.qos_profile.specs.Values.{in_range, number_in, as_number, as_word, numbers_in, number_or_zero, is_within, are_numbers, are_within, as_sizes, as_weights, prefix_of, prefix_at, prefix_from, prefix_with, prefix_or_any, entry_at, entry_with, entry_of, code_of, is_dscp, is_fixed, one_name, as_name, value_of, is_place, colour_at, masked, address_of};
 ghost use Rattle.qos_profile.specs.Table.{form_view};
 
 use crate::fault::FaultKind;
-use crate::matching::{choice, place_among, word_at};
+use crate::matching::{choice, place_among, same_bytes, word_at};
 use crate::name::Name;
 use crate::table::Shape;
 use code_table::Entry;
@@ -16,7 +16,7 @@ use profile_plan::Prefix;
 use qos_base::Colour;
 
 /// A value that a key line gives.
-#[derive(Clone, Copy, Debug)]
+#[derive(Clone, Copy)]
 pub(crate) enum Value {
     Number(u64),
     /// The place of a word among those that may stand there.
@@ -174,13 +174,26 @@ fn colour_at(place: usize) -> Colour
 fn read_code(words: &[&[u8]]) -> Result<Value, FaultKind>
     ensures { result ≡ code_of (map (λ w. w.now) words.now) }
 {
-    if words.len() == 1 && word_at(words, 0) == b"dscp".as_slice() {
+    if is_dscp(words) {
         return Ok(Value::Word(0));
     }
-    if words.len() == 4 && word_at(words, 0) == b"fixed".as_slice() {
+    if is_fixed(words) {
         return entry_at(word_at(words, 1), word_at(words, 2), word_at(words, 3));
     }
     Err(FaultKind::BadNumber)
+}
+
+fn is_dscp(words: &[&[u8]]) -> bool
+    ensures { result ≡ is_dscp (map (λ w. w.now) words.now) }
+{
+    words.len() == 1 && same_bytes(word_at(words, 0), b"dscp")
+}
+
+fn is_fixed(words: &[&[u8]]) -> bool
+    ensures value { result ≡ is_fixed (map (λ w. w.now) words.now) }
+    ensures count { OnTrue result (length words.now ≡ 4) }
+{
+    words.len() == 4 && same_bytes(word_at(words, 0), b"fixed")
 }
 
 // So many words, each a number in its range.
@@ -193,7 +206,12 @@ fn are_numbers(count: usize, words: &[&[u8]]) -> bool
 fn all_numbers(words: &[&[u8]]) -> bool
     ensures { result ≡ list_all (λ w. is_some (number_of w.now)) words.now }
 {
-    words.iter().all(|word| read_number(word).is_some())
+    for word in words {
+        if read_number(word).is_none() {
+            return false;
+        }
+    }
+    true
 }
 
 fn are_within(least: u64, most: u64, words: &[&[u8]]) -> bool
@@ -205,9 +223,12 @@ fn are_within(least: u64, most: u64, words: &[&[u8]]) -> bool
 fn all_within(least: u64, most: u64, words: &[&[u8]]) -> bool
     ensures { result ≡ list_all (λ w. is_within least most (number_or_zero w.now)) words.now }
 {
-    words
-        .iter()
-        .all(|word| is_within(least, most, number_or_zero(word)))
+    for word in words {
+        if !is_within(least, most, number_or_zero(word)) {
+            return false;
+        }
+    }
+    true
 }
 
 fn is_within(least: u64, most: u64, n: u64) -> bool
@@ -279,7 +300,7 @@ fn prefix_or_any(words: &[&[u8]]) -> Result<Value, FaultKind>
     if words.len() != 1 {
         return Err(FaultKind::BadNumber);
     }
-    if word_at(words, 0) == b"any".as_slice() {
+    if same_bytes(word_at(words, 0), b"any") {
         return Ok(Value::Word(0));
     }
     read_prefix(word_at(words, 0))

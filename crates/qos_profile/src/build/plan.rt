@@ -10,7 +10,7 @@ use crate::build::meter::meters;
 use crate::build::pool::pool;
 use crate::build::port::ports;
 use crate::build::rule::rules;
-use crate::head::Head;
+use crate::head::{Head, is_red};
 use crate::list::add;
 use crate::lookup::facts_at;
 use crate::section::Section;
@@ -23,7 +23,7 @@ fn skipped(alloc: Global, sections: &[Section]) -> Result<Sequence<u32>, NoMemor
 {
     let mut lines = Vec::new(alloc);
     for section in sections {
-        if matches!(section.head, Head::Red) {
+        if is_red(&section.head) {
             add(&mut lines, section.line)?;
         }
     }

@@ -11,16 +11,16 @@ pub returns-then-text-gt-MAX_TEXT-clause-fault : goal.returns-then-text-gt-MAX_T
 returns-then-text-gt-MAX_TEXT-clause-fault c =
     text-long c.args.text.now c.if-text-gt-MAX_TEXT.true ∙ ap Some (sym c.with_total.ensures)
 
-pub answer-requires-clause-clear : goal.answer-requires-clause-clear
-answer-requires-clause-clear c =
+pub answer-said-requires-clause-clear : goal.answer-said-requires-clause-clear
+answer-said-requires-clause-clear c =
     (lines_of c.args.text.now, c.in-Ok.ensures.sections.0, c.as_slice.ensures ∙ c.in-Ok.ensures.sections.1)
 
 pub returns-in-Ok : goal.returns-in-Ok
 returns-in-Ok c =
     let items = c.as_slice.ensures in
     record {
-      fault = sections-answer c.args.text.now c.in-Ok.sections c.answer.result c.if-text-gt-MAX_TEXT.false c.in-Ok.ensures.sections (subst (λ s. Answers c.answer.result (fault_of_sections s)) items c.answer.ensures.fault);
-      profile = sections-plan c.args.text.now c.in-Ok.sections c.answer.result c.in-Ok.ensures.sections (subst (λ s. IfOk c.answer.result (λ p. p ≡ plan_of s)) items c.answer.ensures.profile);
+      fault = sections-answer c.args.text.now c.in-Ok.sections c.answer-said.result c.if-text-gt-MAX_TEXT.false c.in-Ok.ensures.sections (subst (λ s. Answers c.answer-said.result (fault_of_sections s)) items c.answer-said.ensures.fault);
+      profile = sections-plan c.args.text.now c.in-Ok.sections c.answer-said.result c.in-Ok.ensures.sections (subst (λ s. IfOk c.answer-said.result (λ p. p ≡ plan_of s)) items c.answer-said.ensures.profile);
     }
 
 pub returns-in-Err-clause-fault : goal.returns-in-Err-clause-fault
