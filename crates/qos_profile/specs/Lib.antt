@@ -1,8 +1,6 @@
 pub mod Table
 pub mod Values
 pub mod Heads
-pub mod Hashed
-pub mod Alike
 pub mod Facts
 pub mod Sections
 pub mod Steps

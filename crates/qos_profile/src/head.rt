@@ -2,7 +2,6 @@
 ghost use Rattle.std.specs.Prelude.{◌≡◌, map};
 ghost use Rattle.qos_profile.specs.Values.{in_range};
 ghost use Rattle.qos_profile.specs.Sections.{is_red};
-ghost use Rattle.qos_profile.specs.Hashed.{numbers_of, name_bytes};
 ghost use Rattle.qos_profile.specs.Heads.{head_of, later_head_of, last_head_of, number_at_most, numbered, subport_head, meter_head};
 
 use crate::fault::FaultKind;
@@ -10,10 +9,9 @@ use crate::matching::{fits, word_at};
 use crate::name::Name;
 use crate::value::in_range;
 use profile_lines::read_number;
-use std::hash::{Hash, Hasher};
 
 /// Which section it is.
-#[derive(Clone, Copy, PartialEq, Eq)]
+#[derive(Clone, Copy, PartialEq, Eq, Hash)]
 pub(crate) enum Head {
     Pool,
     Port(u64),
@@ -26,50 +24,6 @@ pub(crate) enum Head {
     Rule(u64),
     /// A section that is skipped.
     Red,
-}
-
-impl Hash for Head {
-    ghost use Rattle.qos_profile.specs.Hashed.{hashed};
-    ghost use Rattle.qos_profile.specs.Alike.{alike};
-
-    ghost hash_input = { hashed };
-
-    ghost respects_eq = { alike };
-
-    fn hash<H: Hasher>(&self, state: &mut H) {
-        let (kind, number) = numbers_of(self);
-        state.write_u64(kind);
-        state.write_u64(number);
-        state.write(name_bytes(self));
-    }
-}
-
-// The numbers of a head: its kind's and its own. For a subport they are its port's and its own, which may be those of
-// another head too.
-fn numbers_of(head: &Head) -> (u64, u64)
-    ensures { result ≡ numbers_of head.now }
-{
-    match head {
-        Head::Pool => (0, 0),
-        Head::Port(n) => (1, *n),
-        Head::SubportKind(n) => (2, *n),
-        Head::PipeKind(n) => (3, *n),
-        Head::Subport(port, n) => (*port, *n),
-        Head::Codes => (4, 0),
-        Head::Meter(_) => (5, 0),
-        Head::Rule(n) => (6, *n),
-        Head::Red => (7, 0),
-    }
-}
-
-// The bytes of a meter's name.
-fn name_bytes(head: &Head) -> &[u8]
-    ensures { result.now ≡ name_bytes head.now }
-{
-    match head {
-        Head::Meter(name) => &name.bytes,
-        _ => &[],
-    }
 }
 
 /// The head that the words between brackets write.

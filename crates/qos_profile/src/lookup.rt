@@ -31,12 +31,7 @@ pub(crate) fn value_at(facts: &[Fact], group: u8, slot: u64) -> Option<Value>
 pub(crate) fn has(facts: &[Fact], group: u8, slot: u64) -> bool
     ensures { result ≡ has facts.now group slot }
 {
-    for fact in facts {
-        if covers(group, slot, fact) {
-            return true;
-        }
-    }
-    false
+    facts.iter().any(|fact| covers(group, slot, fact))
 }
 
 /// Whether lines give so many slots from 0 on.

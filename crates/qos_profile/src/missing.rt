@@ -128,23 +128,13 @@ fn are_subports(sections: &[Section], port: u64, count: u64) -> bool
 fn has_all_ports(sections: &[Section]) -> bool
     ensures { result ≡ list_all (λ s. has_ports sections.now (ports_to s.head)) sections.now }
 {
-    for section in sections {
-        if !has_ports(sections, ports_to(&section.head)) {
-            return false;
-        }
-    }
-    true
+    sections.iter().all(|section| has_ports(sections, ports_to(&section.head)))
 }
 
 fn has_all_subports(sections: &[Section]) -> bool
     ensures { result ≡ list_all (λ s. has_subports sections.now s.head s.facts) sections.now }
 {
-    for section in sections {
-        if !has_subports(sections, &section.head, section.facts.as_slice()) {
-            return false;
-        }
-    }
-    true
+    sections.iter().all(|section| has_subports(sections, &section.head, section.facts.as_slice()))
 }
 
 /// The line at which something is missing: 0 for a section.

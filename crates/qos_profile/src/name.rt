@@ -7,7 +7,7 @@ ghost use Rattle.profile_plan.specs.Limits.{is_name_byte};
 pub(crate) const LONGEST: usize = 32;
 
 /// A name of 1 to 32 of the letters a to z, the digits and `_`; the bytes past its length are 0.
-#[derive(Clone, Copy, PartialEq, Eq)]
+#[derive(Clone, Copy, PartialEq, Eq, Hash)]
 pub(crate) struct Name {
     pub bytes: [u8; LONGEST],
     pub length: usize,
@@ -34,12 +34,7 @@ impl Name {
 fn are_name_bytes(word: &[u8]) -> bool
     ensures { result ≡ list_all is_name_byte word.now }
 {
-    for byte in word {
-        if !is_name_byte(*byte) {
-            return false;
-        }
-    }
-    true
+    word.iter().all(|byte| is_name_byte(*byte))
 }
 
 fn is_name_byte(byte: u8) -> bool

@@ -27,10 +27,7 @@ pub(crate) fn same_head(a: &Head, b: &Head) -> bool
 pub(crate) fn is_there(sections: &[Section], head: &Head) -> bool
     ensures { result ≡ is_there sections.now head.now }
 {
-    for section in sections {
-        if same_head(&section.head, head) {
-            return true;
-        }
-    }
-    false
+    sections
+        .iter()
+        .any(|section| same_head(&section.head, head))
 }

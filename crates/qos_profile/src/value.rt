@@ -206,12 +206,7 @@ fn are_numbers(count: usize, words: &[&[u8]]) -> bool
 fn all_numbers(words: &[&[u8]]) -> bool
     ensures { result ≡ list_all (λ w. is_some (number_of w.now)) words.now }
 {
-    for word in words {
-        if read_number(word).is_none() {
-            return false;
-        }
-    }
-    true
+    words.iter().all(|word| read_number(word).is_some())
 }
 
 fn are_within(least: u64, most: u64, words: &[&[u8]]) -> bool
@@ -223,12 +218,9 @@ fn are_within(least: u64, most: u64, words: &[&[u8]]) -> bool
 fn all_within(least: u64, most: u64, words: &[&[u8]]) -> bool
     ensures { result ≡ list_all (λ w. is_within least most (number_or_zero w.now)) words.now }
 {
-    for word in words {
-        if !is_within(least, most, number_or_zero(word)) {
-            return false;
-        }
-    }
-    true
+    words
+        .iter()
+        .all(|word| is_within(least, most, number_or_zero(word)))
 }
 
 fn is_within(least: u64, most: u64, n: u64) -> bool
