@@ -1,26 +1,25 @@
 -- Fresh seats, as they are made and dealt.
-use Rattle.std.proofs.Common.{◌≡◌, ◌≢◌, ℕ, zero, suc, ◌+◌, ◌-◌, ◌<◌, ◌≤◌, List, [], ◌∷◌, ◌++◌, Some, None, length, map, take, get_or, slice_get, add-one, inl, inr, ⊎_elim, refl, ap, sym, ◌∙◌, subst, arith}
-use Rattle.std.specs.List.{All}
+use Rattle.std.proofs.Common.{◌≡◌, ◌≢◌, ℕ, zero, suc, ◌+◌, ◌-◌, ◌<◌, ◌≤◌, List, [], ◌∷◌, ◌++◌, Some, length, map, take, slice_get, add-one, inl, inr, ⊎_elim, refl, ap, sym, ◌∙◌, subst, arith}
 use Rattle.std.specs.List.Sorted.{IsStrictlyIncreasing}
 use Rattle.std.specs.Option.{option_map, option_map_or}
 use Rattle.std.proofs.lemmas.Bool.{cases_lt}
 use Rattle.std.proofs.lemmas.List.{length-map, map-append, length_push, take_all}
-use Rattle.std.proofs.lemmas.Option.{slice_get-map, slice_get-get_or, slice_get_within, slice_get_past, same_Some, none-some}
+use Rattle.std.proofs.lemmas.Option.{slice_get-map, slice_get_within, slice_get_past, same_Some, none-some}
 use native.Mathlib.Decide.{ℕ_discrete}
 use mathlib.Core.Logic.{dite}
 use Rattle.atomic_table.specs.Seated.{TableId}
 use Rattle.crossbeam_utils.specs.Seq.{cell_view}
-use Rattle.color_meter.specs.Meter.{MeterState, full}
+use Rattle.color_meter.specs.Meter.{MeterState}
 use Rattle.color_meter.specs.Setting.{Setting}
 use Rattle.meter_table.specs.declared.mark.Mark.{Mark}
 use Rattle.meter_table.specs.declared.rule.View.{View}
 use Rattle.meter_table.specs.declared.seat.MeterSeat.{MeterSeat}
 use Rattle.meter_table.specs.declared.table.MeterTable.{MeterTable}
 use Rattle.meter_table.specs.Kept.{Knows, spent, set_view, one_part, one_part_less}
-use Rattle.meter_table.specs.Seats.{settings_of, marks_by, parts_at, view_at, HasPasses, HasParts, IsSeatOf, IsFresh}
+use Rattle.meter_table.specs.Seats.{settings_of, marks_by, parts_at, view_at, HasPasses, HasParts, IsFresh}
 use Rattle.meter_table.proofs.Logs.{at_push}
 use Rattle.meter_table.proofs.Passes.{APass, OneChanged, there, marks_is, parts_is, view_is, now, others, has_passes}
-use Rattle.meter_table.proofs.Tables.{count_is, passes_count}
+use Rattle.meter_table.proofs.Tables.{count_is}
 
 module _ {A : Type 0} where
   take_suc : (xs : List A) (i : ℕ) (x : A) → slice_get xs i ≡ Some x → take (suc i) xs ≡ take i xs ++ x ∷ []

@@ -1,10 +1,10 @@
 -- What who has all seats and all marks makes of them.
-use Rattle.std.proofs.Common.{◌≡◌, ◌≢◌, ℕ, zero, suc, ◌+◌, ◌<◌, ◌≤◌, Bool, true, false, List, [], ◌∷◌, ◌++◌, Some, None, length, get_or, slice_get, cond, eqb, inl, inr, refl, ap, sym, ◌∙◌, subst, arith}
+use Rattle.std.proofs.Common.{◌≡◌, ℕ, suc, ◌+◌, ◌<◌, Bool, true, false, List, [], ◌∷◌, ◌++◌, Some, length, slice_get, cond, eqb, inl, inr, refl, ap, sym, ◌∙◌, subst, arith}
 use Rattle.std.specs.List.{sum_by, All}
 use Rattle.std.proofs.lemmas.Bool.{cases_lt, eqb-true}
 use Rattle.std.proofs.lemmas.List.Sums.{sum_by-cons, sum_by_push}
 use Rattle.std.proofs.lemmas.List.Elements.{All-same, All-push}
-use Rattle.std.proofs.lemmas.Option.{slice_get_within, get_or_from_slice_get, same_Some, none-some}
+use Rattle.std.proofs.lemmas.Option.{slice_get_within, get_or_from_slice_get}
 use native.Mathlib.Decide.{ℕ_discrete}
 use mathlib.Core.Logic.{dite}
 use Rattle.crossbeam_utils.specs.Seq.{cell_view}
@@ -17,7 +17,7 @@ use Rattle.meter_table.specs.declared.table.MeterTable.{MeterTable}
 use Rattle.meter_table.specs.Gathered.{Fills}
 use Rattle.meter_table.specs.Kept.{Knows, StandsIn, IsSeen}
 use Rattle.meter_table.specs.Log.{IsLegalLog, made_at}
-use Rattle.meter_table.specs.Logs.{AreAllMarks, IsLogOf, IsMadeBy, Among}
+use Rattle.meter_table.specs.Logs.{AreAllMarks, IsLogOf, Among}
 use Rattle.meter_table.specs.Seats.{settings_of, marks_by, parts_at, view_at, HasPasses, IsSeatOf, AreAllSeats}
 use Rattle.meter_table.proofs.Passes.{APass, OneChanged, marks_is, parts_is, view_is, now, others, has_passes}
 use Rattle.meter_table.proofs.Tables.{count_is}

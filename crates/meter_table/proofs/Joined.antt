@@ -1,21 +1,16 @@
 -- Seats that become one.
 use Rattle.std.proofs.Common.{◌≡◌, ◌≢◌, ℕ, zero, suc, ◌+◌, ◌-◌, ◌<◌, ◌≤◌, List, [], ◌∷◌, ◌++◌, Some, None, length, map, take, get_or, slice_get, inl, inr, ⊎_elim, refl, ap, sym, ◌∙◌, subst, arith}
-use Rattle.std.specs.List.{All}
-use Rattle.std.proofs.lemmas.Bool.{cases_lt}
-use Rattle.std.proofs.lemmas.List.{length_push, take_all, length-take-le}
-use Rattle.std.proofs.lemmas.Option.{slice_get_within, slice_get_past, same_Some, none-some}
+use Rattle.std.proofs.lemmas.List.{length_push, take_all}
+use Rattle.std.proofs.lemmas.Option.{same_Some}
 use native.Mathlib.Decide.{ℕ_discrete}
 use mathlib.Core.Logic.{dite}
 use Rattle.crossbeam_utils.specs.Seq.{cell_view}
-use Rattle.color_meter.specs.Setting.{Setting}
-use Rattle.meter_table.specs.declared.mark.Mark.{Mark}
 use Rattle.meter_table.specs.declared.rule.View.{View}
 use Rattle.meter_table.specs.declared.seat.MeterSeat.{MeterSeat}
 use Rattle.meter_table.specs.declared.table.MeterTable.{MeterTable}
 use Rattle.meter_table.specs.Kept.{Knows, spent, both_views}
 use Rattle.meter_table.specs.Seats.{marks_by, parts_at, view_at, HasPasses}
-use Rattle.meter_table.proofs.Logs.{stands_last, stays}
-use Rattle.meter_table.proofs.Passes.{APass, OneChanged, there, marks_is, parts_is, view_is, now, others, has_passes}
+use Rattle.meter_table.proofs.Passes.{APass, OneChanged, marks_is, parts_is, view_is, now, others, has_passes}
 use Rattle.meter_table.proofs.Tables.{passes_count}
 use Rattle.meter_table.proofs.Dealt.{nothing_past}
 

@@ -1,5 +1,5 @@
 -- Each step of a seat keeps the rule of its cell.
-use Rattle.std.proofs.Common.{◌≡◌, ◌≢◌, ℕ, zero, suc, ◌+◌, ◌-◌, ◌*◌, ◌^◌, ◌<◌, ◌≤◌, Bool, true, false, List, [], ◌∷◌, ◌++◌, Some, None, length, take, get_or, set, cond, eqb, ◌⊎◌, inl, inr, ⊎_elim, refl, ap, sym, ◌∙◌, subst, eq-eqb, ne_eqb, nat_eq, slice_get, slice_index, slice_set, add-zero, if◌then◌else◌, arith}
+use Rattle.std.proofs.Common.{◌≡◌, ℕ, zero, suc, ◌+◌, ◌*◌, ◌^◌, ◌<◌, ◌≤◌, Bool, true, false, List, [], ◌∷◌, ◌++◌, Some, length, set, cond, eqb, inl, inr, ⊎_elim, refl, ap, sym, ◌∙◌, subst, eq-eqb, ne_eqb, nat_eq, slice_get, slice_index, slice_set, add-zero, if◌then◌else◌, arith}
 use Rattle.std.specs.List.{sum_by, All}
 use Rattle.std.proofs.lemmas.List.{length_push, length-append}
 use Rattle.std.proofs.lemmas.List.Elements.{All-push, All-append, All-nil}
@@ -11,18 +11,18 @@ use mathlib.Core.Option.{some, some-injective, some-ne-none}
 use lib.ListN.{get_elem?}
 use lib.Pointwise.{pointwise, bytes_decides}
 use Rattle.atomic_table.proofs.Lists.{at_set, at_snoc, set_again}
-use Rattle.crossbeam_utils.specs.Register.{Turns, TurnsAt, Forks, Merges}
+use Rattle.crossbeam_utils.specs.Register.{Turns, Forks, Merges}
 use Rattle.profile_plan.specs.declared.meter.MeterKind.{MeterKind}
 use Rattle.profile_plan.specs.declared.meter.MeterKind.TheVariants.{SrTcm, TrTcm, Rfc4115}
 use Rattle.color_meter.specs.Meter.{MeterState, IsMeterState, full}
 use Rattle.color_meter.specs.Setting.{Setting}
 use Rattle.meter_table.specs.declared.mark.Mark.{Mark}
 use Rattle.meter_table.specs.declared.rule.View.{View}
-use Rattle.meter_table.specs.Log.{IsLegalLog, made_at}
-use Rattle.meter_table.specs.Cell.{IsCell, IsNext, kind_word, kind_of, flag_word, settled_words, setting_in, mark_in}
-use Rattle.meter_table.specs.Kept.{blank, spent, Knows, StandsIn, IsShared, IsKept, set_view, Settles, IsSeen, Looks, meter_of, with_mark, Marks, one_part_less, one_part, both_views}
+use Rattle.meter_table.specs.Log.{made_at}
+use Rattle.meter_table.specs.Cell.{IsNext, kind_word, kind_of, flag_word, settled_words, setting_in, mark_in}
+use Rattle.meter_table.specs.Kept.{blank, spent, Knows, StandsIn, IsShared, IsKept, set_view, Settles, Looks, meter_of, with_mark, Marks, one_part_less, one_part, both_views}
 use Rattle.meter_table.proofs.Sums.{sum_at, sum_cut, sum_joined, sum_none, sum_within, sum_alone}
-use Rattle.meter_table.proofs.Logs.{legal_push, meter_after_push, stand_later, stands_last, turns_within, made_at_push, made_at-append, made_at-le, made_at_none}
+use Rattle.meter_table.proofs.Logs.{legal_push, stand_later, stands_last, turns_within, made_at_push, made_at-append, made_at-le, made_at_none}
 
 module _ {V : Type 0} (F : V → Type 0) where
   -- what holds of each view holds of each after one of them has changed

@@ -1,11 +1,10 @@
 -- A seat of which one pass has changed.
-use Rattle.std.proofs.Common.{◌≡◌, ◌≢◌, ℕ, zero, suc, ◌+◌, ◌<◌, ◌≤◌, List, [], ◌∷◌, ◌++◌, Option, Some, None, length, map, get_or, set, slice_set, slice_get, refl, ap, sym, ◌∙◌, subst, inl, inr, ⊎_elim, arith}
+use Rattle.std.proofs.Common.{◌≡◌, ◌≢◌, ℕ, zero, suc, ◌<◌, List, [], ◌∷◌, ◌++◌, Some, None, length, map, get_or, set, slice_set, slice_get, refl, ap, sym, ◌∙◌, subst, arith}
 use Rattle.std.specs.List.{All}
 use Rattle.std.specs.List.Sorted.{IsStrictlyIncreasing}
 use Rattle.std.proofs.lemmas.List.Elements.{All-same}
 use Rattle.std.specs.Option.{option_map, option_map_or}
-use Rattle.std.proofs.lemmas.Option.{slice_get-map, slice_get_read, slice_get_within, slice_get_past, same_Some, none-some}
-use Rattle.std.proofs.lemmas.List.{length-map}
+use Rattle.std.proofs.lemmas.Option.{slice_get-map, slice_get_read, slice_get_within, same_Some}
 use native.Mathlib.Decide.{ℕ_discrete}
 use mathlib.Core.Logic.{dite}
 use Rattle.atomic_table.specs.declared.shared.Seat.{Seat}
@@ -17,7 +16,7 @@ use Rattle.meter_table.specs.declared.rule.View.{View}
 use Rattle.meter_table.specs.declared.seat.MeterSeat.{MeterSeat}
 use Rattle.meter_table.specs.declared.table.MeterTable.{MeterTable}
 use Rattle.meter_table.specs.Kept.{Knows, spent, with_mark}
-use Rattle.meter_table.specs.Seats.{settings_of, marks_by, parts_at, view_at, HasPasses, IsSeatOf}
+use Rattle.meter_table.specs.Seats.{marks_by, parts_at, view_at, HasPasses, IsSeatOf}
 use Rattle.meter_table.proofs.Rising.{rising_push}
 
 abbrev pub APass : Type 0

@@ -1,11 +1,10 @@
 -- What a table and its seats have at the number of a meter.
-use Rattle.std.proofs.Common.{◌≡◌, ℕ, ◌<◌, ◌≤◌, List, [], ◌∷◌, Option, Some, None, length, map, get_or, slice_get, refl, ap, sym, ◌∙◌, subst, arith}
+use Rattle.std.proofs.Common.{◌≡◌, ℕ, ◌<◌, Some, length, get_or, slice_get, ap, sym, ◌∙◌, subst, arith}
 use Rattle.std.specs.Option.{option_map}
-use Rattle.std.proofs.lemmas.Option.{slice_get-map, slice_get_within}
+use Rattle.std.proofs.lemmas.Option.{slice_get-map}
 use Rattle.std.proofs.lemmas.List.{length-map}
 use Rattle.crossbeam_utils.specs.Seq.{cell_view}
 use Rattle.color_meter.specs.Meter.{MeterState}
-use Rattle.meter_table.specs.declared.rule.View.{View}
 use Rattle.meter_table.specs.declared.seat.MeterSeat.{MeterSeat}
 use Rattle.meter_table.specs.declared.table.MeterTable.{MeterTable}
 use Rattle.meter_table.specs.Kept.{Knows}

@@ -1,6 +1,6 @@
 -- The words of a meter's cell. Word 0 is how many marks the meter has made. Until the first they say what the meter is set to; from then on
 -- how it stands, and the last mark.
-use Rattle.std.specs.Prelude.{◌≡◌, ℕ, ◌+◌, ◌-◌, ◌<◌, ◌==◌, Bool, true, false, if◌then◌else◌, List, [], ◌∷◌, ◌++◌, length, slice_index}
+use Rattle.std.specs.Prelude.{◌≡◌, ℕ, ◌+◌, ◌-◌, ◌<◌, ◌==◌, Bool, if◌then◌else◌, List, [], ◌∷◌, ◌++◌, length, slice_index}
 use Rattle.qos_base.specs.declared.packet.Colour.{Colour}
 use Rattle.qos_base.specs.declared.packet.Colour.TheVariants.{Green, Yellow, Red}
 use Rattle.profile_plan.specs.declared.meter.MeterKind.{MeterKind}

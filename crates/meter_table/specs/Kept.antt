@@ -4,7 +4,7 @@
 -- A seat's own part of the picture is changed by that seat's steps alone. Whatever the others have done before, each step leaves the rule
 -- true again; so it is true at every moment. Every seat has parts of the cell, of which there are 48 in all. Who has joined all seats has
 -- all parts, and with them all marks: no other seat can have made any.
-use Rattle.std.specs.Prelude.{◌≡◌, ℕ, ◌+◌, ◌-◌, ◌*◌, ◌^◌, ◌<◌, ◌≤◌, ◌==◌, ◌⊎◌, if◌then◌else◌, List, [], ◌∷◌, ◌++◌, length, count_by, Some, None, slice_get, slice_index, All}
+use Rattle.std.specs.Prelude.{◌≡◌, ℕ, ◌+◌, ◌-◌, ◌*◌, ◌^◌, ◌<◌, ◌≤◌, ◌==◌, ◌⊎◌, if◌then◌else◌, List, [], ◌∷◌, ◌++◌, length, Some, None, slice_get, slice_index, All}
 use Rattle.std.specs.List.{sum_by}
 use Rattle.std.specs.Option.{option_map_or}
 use mathlib.Core.Option.{some}

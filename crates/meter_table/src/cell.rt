@@ -1,11 +1,12 @@
 //! The cell of a meter, which callers share, and the steps on it.
-ghost use Rattle.std.specs.Prelude.{◌≡◌, ◌^◌, ◌<◌, ◌≤◌, ℕ, [], length, All, IfOk};
+ghost use Rattle.std.specs.Prelude.{◌≡◌, ◌^◌, ◌<◌, ◌≤◌, ℕ, [], if◌then◌else◌, length, true, All, IfOk};
 ghost use Rattle.crossbeam_utils.specs.Seq.{cell_view};
 ghost use Rattle.profile_plan.specs.Limits.{IsMeter};
 ghost use Rattle.color_meter.specs.Meter.{full};
 ghost use Rattle.color_meter.specs.Setting.{Setting, setting_of};
 ghost use Rattle.meter_table.specs.Asked.{request_in, request_of};
-ghost use Rattle.meter_table.specs.Kept.{Knows, both_views, one_part, one_part_less, set_view, with_mark};
+ghost use Rattle.meter_table.specs.Cell.{IsNext};
+ghost use Rattle.meter_table.specs.Kept.{IsSeen, Knows, blank, both_views, one_part, one_part_less, set_view, with_mark};
 
 use crate::mark::Mark;
 use crate::rule::{Both, Enter, Kept, Look, OnePart, Settle, View, Whole};
@@ -21,6 +22,18 @@ pub type Cell = RuledSeqCell<[u64; 12], View, Kept, 12>;
 
 pub type Pass = crossbeam_utils::atomic::seq_cell::Pass<[u64; 12], View>;
 
+// Sets the meter of a cell of which nothing is known.
+fn settle<R: Wait>(rt: &R, cell: &Cell, pass: &mut Pass, meter: u32, plan: &MeterPlan)
+    requires plan { IsMeter plan.now }
+    requires cell { pass.old.table_id ≡ cell.now.table.shared.table_id }
+    requires view { cell_view {V = View} pass.old ≡ blank }
+    ensures cell { pass.new.table_id ≡ pass.old.table_id }
+    ensures view { cell_view {V = View} pass.new ≡ set_view meter (setting_of plan.now) }
+{
+    let words = settled_words(meter, plan);
+    cell.swap_as::<Settle, R>(rt, pass, words);
+}
+
 /// A cell of a meter that is set to this, and the pass that has all of its parts.
 pub fn make<R: Wait>(
     rt: &R,
@@ -33,8 +46,7 @@ pub fn make<R: Wait>(
     ensures view { IfOk result (λ r. cell_view {V = View} r.1 ≡ set_view meter (setting_of plan.now)) }
 {
     let (cell, mut pass) = Cell::ruled(alloc, [0; 12])?;
-    let words = settled_words(meter, plan);
-    cell.swap_as::<Settle, R>(rt, &mut pass, words);
+    settle(rt, &cell, &mut pass, meter, plan);
     Ok((cell, pass))
 }
 
@@ -64,6 +76,39 @@ pub fn join(cell: &Cell, pass: &mut Pass, mut other: Pass)
     cell.join_pass::<Both>(pass, whole);
 }
 
+/// The words of a cell, and what they tell.
+pub fn look<R: Wait>(rt: &R, cell: &Cell, pass: &mut Pass) -> [u64; 12]
+    requires { pass.old.table_id ≡ cell.now.table.shared.table_id }
+    ensures cell { pass.new.table_id ≡ pass.old.table_id }
+    ensures view { cell_view {V = View} pass.new ≡ cell_view pass.old }
+    ensures seen { (meter : ℕ) (setting : Setting) → Knows meter setting (cell_view pass.old) → IsSeen meter setting (cell_view pass.old) result }
+{
+    cell.load_as::<Look, R>(rt, pass)
+}
+
+// Puts the words that a mark leaves in place of those that were seen, and says whether these were still there.
+fn put<R: Wait>(
+    rt: &R,
+    cell: &Cell,
+    pass: &mut Pass,
+    seen: [u64; 12],
+    mark: &Mark,
+    next: [u64; 12],
+) -> bool
+    requires cell { pass.old.table_id ≡ cell.now.table.shared.table_id }
+    requires next { (meter : ℕ) × (setting : Setting) × Knows meter setting (cell_view pass.old) × IsNext meter setting seen mark.now next }
+    requires few { length (cell_view pass.old).marks < 2 ^ 56 }
+    ensures cell { pass.new.table_id ≡ pass.old.table_id }
+    ensures view { cell_view {V = View} pass.new ≡ (if result then with_mark (cell_view pass.old) mark.now else cell_view pass.old) }
+    ensures turn { result ≡ true → All (λ m. m.turn < mark.now.turn) (cell_view pass.old).marks }
+{
+    let _ = mark;
+    if let Ok(_) = cell.compare_exchange_as::<Enter, R>(rt, pass, seen, next) {
+        return true;
+    }
+    false
+}
+
 /// Has the meter mark a packet, in one step on its cell; `start` is what the meter was when it began.
 pub fn enter<R: Wait>(rt: &R, cell: &Cell, pass: &mut Pass, start: &Meter, ask: &Ask) -> Mark
     requires cell { pass.old.table_id ≡ cell.now.table.shared.table_id }
@@ -77,9 +122,9 @@ pub fn enter<R: Wait>(rt: &R, cell: &Cell, pass: &mut Pass, start: &Meter, ask: 
     ensures turn { All (λ mark. mark.turn < result.turn) (cell_view pass.old).marks }
 {
     for _ in rt.forever() {
-        let seen = cell.load_as::<Look, R>(rt, pass);
+        let seen = look(rt, cell, pass);
         let (mark, next) = next_words(start, ask, &seen);
-        if let Ok(_) = cell.compare_exchange_as::<Enter, R>(rt, pass, seen, next) {
+        if put(rt, cell, pass, seen, &mark, next) {
             return mark;
         }
     }

@@ -2,11 +2,10 @@
 ghost use Rattle.std.specs.Prelude.{◌≡◌, ◌≤◌, All, length};
 ghost use Rattle.color_meter.specs.Meter.{full};
 
-use crate::cell::{Cell, enter};
+use crate::cell::{Cell, enter, look};
 use crate::deal::set_up;
 use crate::gather::log_of;
 use crate::mark::{Mark, MeterLog};
-use crate::rule::Look;
 use crate::seat::MeterSeat;
 use crate::words::Ask;
 use color_meter::Meter;
@@ -122,7 +121,7 @@ impl MeterTable {
         };
         let mut all = self.join_all(first, seats);
         for n in 0..self.cells.len() {
-            let seen = self.cells[n].load_as::<Look, R>(rt, &mut all.passes[n]);
+            let seen = look(rt, &self.cells[n], &mut all.passes[n]);
             logs.push_reserved(log_of(self.alloc, n as u32, seen[0], marks.as_slice())?);
         }
         Ok(logs)

@@ -1,8 +1,7 @@
-use Rattle.std.proofs.Common.{◌≡◌, ◌<◌, ◌+◌, ℕ, List, Some, length, get_or, slice_get, slice_set, vec_len, rules, arith, refl, ap, sym, ◌∙◌, subst}
+use Rattle.std.proofs.Common.{◌+◌, get_or, vec_len, arith, ap, sym, ◌∙◌, subst}
 use Rattle.std.proofs.lemmas.Option.{slice_get-get_or, slice_get_within}
 use Rattle.qos_base.specs.declared.packet.Colour.TheVariants.{Green}
 use Rattle.meter_table.specs.declared.mark.Mark.{Mark}
-use Rattle.meter_table.specs.Gathered.{Fills}
 use Rattle.meter_table.proofs.Filled.{Placed, place_mine, place_other, all_placed}
 use Rattle.meter_table.proofs.gather.place.Goals as goal
 use Rattle.meter_table.proofs.gather.place.Goals.{then-mark-meter, else-mark-meter}

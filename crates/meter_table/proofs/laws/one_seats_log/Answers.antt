@@ -1,4 +1,4 @@
-use Rattle.std.proofs.Common.{ℕ, refl, arith}
+use Rattle.std.proofs.Common.{refl, arith}
 use Rattle.meter_table.proofs.OneSeat.{one_seat}
 use Rattle.meter_table.specs.Seats.{marks_by}
 use Rattle.meter_table.proofs.laws.one_seats_log.Goals as goal

@@ -1,4 +1,4 @@
-use Rattle.std.proofs.Common.{ℕ, rules, arith, ap}
+use Rattle.std.proofs.Common.{rules, arith, ap}
 use Rattle.std.specs.List.{sum_by}
 use Rattle.std.proofs.lemmas.List.Sums.{sum_by_push}
 use Rattle.std.proofs.lemmas.List.Elements.{All-push, All-same, All-weaker}

@@ -1,13 +1,9 @@
-use Rattle.std.proofs.Common.{◌≡◌, ◌<◌, ◌+◌, ℕ, List, Some, length, slice_get, rules, arith, refl, ap, sym, ◌∙◌, subst, ⊎_elim}
-use Rattle.std.proofs.lemmas.Option.{none-some, slice_get_within, same_Some}
-use Rattle.crossbeam_utils.specs.Seq.{cell_view}
-use Rattle.meter_table.specs.declared.mark.MeterLog.{MeterLog}
-use Rattle.meter_table.specs.declared.rule.View.{View}
+use Rattle.std.proofs.Common.{◌≡◌, slice_get, rules, arith, refl, ap, sym, ◌∙◌, subst, ⊎_elim}
+use Rattle.std.proofs.lemmas.Option.{none-some, same_Some}
 use Rattle.meter_table.specs.declared.seat.MeterSeat.{MeterSeat}
 use Rattle.meter_table.specs.Kept.{IsSeen}
 use Rattle.meter_table.specs.Logs.{AreAllMarks, IsLogOf}
-use Rattle.meter_table.specs.Seats.{settings_of, view_at}
-use Rattle.meter_table.proofs.Moves.{looks}
+use Rattle.meter_table.specs.Seats.{settings_of}
 use Rattle.meter_table.proofs.Logs.{at_push}
 use Rattle.meter_table.proofs.Passes.{APass, read, alike_at, view_is}
 use Rattle.meter_table.proofs.Tables.{pass_read, pass_meter, setting_at}
@@ -24,8 +20,8 @@ loop-n-init g c =
       room = search rules;
     }
 
-pub load_as-seen-requires : goal.load_as-seen-requires
-load_as-seen-requires g c =
+pub look-seen-requires : goal.look-seen-requires
+look-seen-requires g c =
     let t = c.args.self in
     let all : MeterSeat = c.loop-n.all in
     let n = c.loop-n.n in
@@ -33,7 +29,7 @@ load_as-seen-requires g c =
     let has = c.loop-n.invariant.whole.has in
     let pass = pass_read t all has n p (omega arith) c.index_mut.ensures.value in
     let cell = read t.cells.items n c.index.result.now (omega arith) c.index.ensures in
-    (search rules, (search rules, (alike_at (λ (q : APass). q.table_id) (λ x. x.table.shared.table_id) all.passes.items t.cells.items n p c.index.result.now has.cells pass cell, looks _ _)))
+    alike_at (λ (q : APass). q.table_id) (λ x. x.table.shared.table_id) all.passes.items t.cells.items n p c.index.result.now has.cells pass cell
 
 pub log_of-requires : goal.log_of-requires
 log_of-requires g c =
@@ -45,8 +41,8 @@ log_of-requires g c =
     let pass = pass_read t all whole.has n p (omega arith) c.index_mut.ensures.value in
     let known = pass_meter t all whole.has n p (omega arith) pass in
     let setting = known.0.setting in
-    let words = c.load_as-seen.result in
-    let seen = subst (λ v. IsSeen n setting v words) (sym (view_is n all p pass)) (c.load_as-seen.ensures.rule.seen n setting known.2) in
+    let words = c.look-seen.result in
+    let seen = subst (λ v. IsSeen n setting v words) (sym (view_is n all p pass)) (c.look-seen.ensures.seen n setting known.2) in
     let marks = c.as_slice.result.now in
     let are = subst (AreAllMarks c.args.seats.items) (sym c.as_slice.ensures.value) c.requires.marks in
     (seen.log, fills t c.args.seats.items marks all c.requires.seats are whole n setting words (setting_at t n known.0 known.1) seen, sym seen.cell.count)
@@ -61,18 +57,18 @@ loop-n-preserved g c =
     let was = c.loop-n.invariant in
     let pass = pass_read t all was.whole.has n p (omega arith) c.index_mut.ensures.value in
     let known = pass_meter t all was.whole.has n p (omega arith) pass in
-    let words = c.load_as-seen.result in
+    let words = c.look-seen.result in
     let made = c.in_ok-log_of.ensures in
     let marks = c.as_slice.result.now in
     let are = subst (AreAllMarks seats) (sym c.as_slice.ensures.value) c.requires.marks in
     let new : IsLogOf n known.0.setting seats c.in_ok-log_of.field-0 =
     let setting = known.0.setting in
-    let seen = subst (λ v. IsSeen n setting v words) (sym (view_is n all p pass)) (c.load_as-seen.ensures.rule.seen n setting known.2) in
+    let seen = subst (λ v. IsSeen n setting v words) (sym (view_is n all p pass)) (c.look-seen.ensures.seen n setting known.2) in
     let at = setting_at t n known.0 known.1 in
     let filled = fills t seats marks all c.requires.seats are was.whole n setting words at seen in
     log_is t seats marks all c.requires.seats are was.whole n setting words at seen _ made.meter (made.marks seen.log filled (sym seen.cell.count)) in
     record {
-      whole = look_whole t seats all _ n p c.load_as-seen.new.pass was.whole (record { items = refl; was = pass; cell = c.load_as-seen.ensures.cell.0 }) c.load_as-seen.ensures.rule.view;
+      whole = look_whole t seats all _ n p c.look-seen.new.pass was.whole (record { items = refl; was = pass; cell = c.look-seen.ensures.cell }) c.look-seen.ensures.view;
       count = search rules;
       logs = λ k setting log at_k at_log.
           ⊎_elim

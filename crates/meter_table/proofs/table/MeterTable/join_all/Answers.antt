@@ -1,8 +1,7 @@
-use Rattle.std.proofs.Common.{◌≡◌, ℕ, ◌++◌, List, rules, arith, ap, subst}
+use Rattle.std.proofs.Common.{ℕ, arith, ap, subst}
 use Rattle.std.specs.List.{sum_by, All}
 use Rattle.std.proofs.lemmas.List.Sums.{sum_by_push}
 use Rattle.std.proofs.lemmas.List.Elements.{All-pop, All-push, All-same}
-use Rattle.meter_table.specs.declared.mark.Mark.{Mark}
 use Rattle.meter_table.specs.declared.seat.MeterSeat.{MeterSeat}
 use Rattle.meter_table.specs.Kept.{StandsIn}
 use Rattle.meter_table.specs.Log.{made_at}

@@ -1,10 +1,9 @@
-use Rattle.std.proofs.Common.{◌≡◌, ℕ, ◌<◌, ◌^◌, List, length, get_or, rules, arith, refl, ap, ◌∙◌}
+use Rattle.std.proofs.Common.{◌≡◌, List, length, rules, arith, refl, ap, ◌∙◌}
 use Rattle.crossbeam_utils.specs.Seq.{cell_view}
 use Rattle.meter_table.specs.declared.mark.Mark.{Mark}
 use Rattle.meter_table.specs.declared.rule.View.{View}
-use Rattle.meter_table.specs.declared.seat.MeterSeat.{MeterSeat}
 use Rattle.meter_table.specs.Seats.{marks_by}
-use Rattle.meter_table.proofs.Passes.{APass, OneChanged, read, alike_at, marks_is, view_is, one_more}
+use Rattle.meter_table.proofs.Passes.{APass, read, alike_at, marks_is, view_is, one_more}
 use Rattle.meter_table.proofs.Tables.{count_is, passes_count, pass_knows}
 use Rattle.meter_table.proofs.table.MeterTable.mark.Goals as goal
 

@@ -1,4 +1,4 @@
-use Rattle.std.proofs.Common.{◌≡◌, ◌<◌, ◌+◌, ℕ, rules, arith, refl, ap, sym, ◌∙◌, subst}
+use Rattle.std.proofs.Common.{◌≡◌, rules, arith, refl, ap, sym, ◌∙◌}
 use Rattle.crossbeam_utils.specs.Seq.{cell_view}
 use Rattle.meter_table.specs.declared.rule.View.{View}
 use Rattle.meter_table.specs.declared.seat.MeterSeat.{MeterSeat}
