@@ -102,6 +102,7 @@ fn put<R: Wait>(
     ensures view { cell_view {V = View} pass.new ≡ (if result then with_mark (cell_view pass.old) mark.now else cell_view pass.old) }
     ensures turn { result ≡ true → All (λ m. m.turn < mark.now.turn) (cell_view pass.old).marks }
 {
+    // the contract alone speaks of it
     let _ = mark;
     if let Ok(_) = cell.compare_exchange_as::<Enter, R>(rt, pass, seen, next) {
         return true;
