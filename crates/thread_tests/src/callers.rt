@@ -3,7 +3,7 @@ ghost use Rattle.std.specs.Prelude.{◌≡◌, ℕ, ◌+◌, ◌<◌, ◌≤◌,
 ghost use Rattle.meter_table.specs.Logs.{AreAllMarks};
 ghost use Rattle.meter_table.specs.Seats.{AreAllSeats, IsFresh, IsSeatOf, marks_by, parts_at, settings_of};
 
-use meter_table::{Mark, MeterLog, MeterSeat, MeterTable};
+use meter_table::{Mark, MeterLog, MeterSeat, MeterTable, laws};
 use qos_base::Colour::Green;
 use std::process::Abort;
 use std::sync::Wait;
@@ -55,6 +55,7 @@ pub(crate) fn ask<R: Wait + Abort>(
         mut seat,
         mut marks,
     } = caller;
+    laws::one_more_made();
     let mark = table.mark(rt, &mut seat, meter, pkt, 0, len, Green);
     marks.push(mark).expect(rt, "memory");
     Caller { seat, marks }
@@ -146,6 +147,7 @@ pub(crate) fn ended<R: AllocGlobal + Wait + Abort>(
     requires its { AreAllMarks (first.seat ∷ []) first.marks.items × AreAllMarks (second.seat ∷ []) second.marks.items }
     ensures { length result.items ≡ length (settings_of table) }
 {
+    laws::together_made();
     let Caller { seat, mut marks } = first;
     let Caller {
         seat: other,

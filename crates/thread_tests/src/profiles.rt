@@ -57,13 +57,25 @@ fn text_of<R: AllocGlobal + Abort>(rt: &R, meters: &[Meter<'_>]) -> String {
     text
 }
 
+// A profile that is read from a text.
+fn read<R: AllocGlobal + Abort>(rt: &R, text: &str) -> Profile {
+    read_profile(rt.alloc(), text.as_bytes()).expect(rt, "a profile")
+}
+
+// A profile has so many meters.
+fn has_meters(rt: &impl Abort, profile: &Profile, count: usize)
+    ensures { length profile.now.meters ≡ count }
+{
+    assert!(rt; profile.meters.as_slice().len() == count);
+}
+
 // A profile of one pipe with these meters.
 fn profile<R: AllocGlobal + Abort>(rt: &R, meters: &[Meter<'_>]) -> Profile
     ensures { length result.meters ≡ length meters.now }
 {
     let text = text_of(rt, meters);
-    let profile = read_profile(rt.alloc(), text.as_bytes()).expect(rt, "a profile");
-    assert!(rt; profile.meters.as_slice().len() == meters.len());
+    let profile = read(rt, text.as_str());
+    has_meters(rt, &profile, meters.len());
     profile
 }
 
@@ -81,5 +93,7 @@ pub(crate) fn table_of<R: AllocGlobal + Wait + Abort>(
     ensures all { AreAllSeats result.0 result.1.items }
 {
     let p = profile(rt, meters);
-    MeterTable::new(rt, rt.alloc(), &p, jobs).expect(rt, "memory")
+    let made = MeterTable::new(rt, rt.alloc(), &p, jobs).expect(rt, "memory");
+    drop(p);
+    made
 }
