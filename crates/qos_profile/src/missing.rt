@@ -128,7 +128,9 @@ fn are_subports(sections: &[Section], port: u64, count: u64) -> bool
 fn has_all_ports(sections: &[Section]) -> bool
     ensures { result ≡ list_all (λ s. has_ports sections.now (ports_to s.head)) sections.now }
 {
-    sections.iter().all(|section| has_ports(sections, ports_to(&section.head)))
+    sections
+        .iter()
+        .all(|section| has_ports(sections, ports_to(&section.head)))
 }
 
 fn has_all_subports(sections: &[Section]) -> bool
