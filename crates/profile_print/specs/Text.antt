@@ -60,6 +60,15 @@ abbrev pub drain_key : Span → Key
 drain_key (Bytes n) = number (codes "drain" ∷ []) n
 drain_key (Ms n) = number (codes "drain" ∷ codes "ms" ∷ []) n
 
+-- a port's overhead and sizes
+abbrev pub size_keys : PortPlan → List Key
+size_keys p =
+    number (codes "frame" ∷ codes "overhead" ∷ []) p.overhead
+    ∷ number (codes "mtu" ∷ []) p.mtu
+    ∷ number (codes "burst" ∷ []) p.burst
+    ∷ number (codes "quantum" ∷ []) p.quantum
+    ∷ []
+
 -- `[port N]`
 unfoldable pub port_block : ℕ → PortPlan → Block
 port_block n p =
@@ -127,6 +136,14 @@ pipe_key pipe kind = number (codes "pipe" ∷ decimal pipe ∷ []) kind
 
 abbrev pub yes_word : Bool → List ℕ
 yes_word on = if on then codes "yes" else codes "no"
+
+-- a subport's queues, its pipes and whether it is oversubscribed
+abbrev pub queue_keys : SubportPlan → List Key
+queue_keys s =
+    record { words = codes "queue" ∷ codes "sizes" ∷ []; value = map decimal s.sizes }
+    ∷ each pipe_key s.pipes
+    ++ word (codes "oversubscription" ∷ []) (yes_word s.oversub)
+    ∷ []
 
 -- `[subport P S]`
 unfoldable pub subport_block : ℕ → ℕ → SubportPlan → Block
@@ -270,6 +287,24 @@ abbrev pub meter_keys : List MeterPlan → Option ℕ → List Key
 meter_keys meters None = []
 meter_keys meters (Some n) = word (codes "meter" ∷ []) (name_of_meter meters n) ∷ []
 
+-- what a rule tests
+abbrev pub test_keys : RulePlan → List Key
+test_keys r =
+    word (codes "input" ∷ []) (input_word r.input)
+    ∷ word (codes "vlan" ∷ []) (vlan_word r.vlan)
+    ∷ word (codes "proto" ∷ []) (proto_word r.proto)
+    ∷ word (codes "src" ∷ []) (prefix_or_any_word r.src)
+    ∷ word (codes "dst" ∷ []) (prefix_or_any_word r.dst)
+    ∷ []
+
+-- the port, the subport and the pipe that a rule names
+abbrev pub target_keys : RulePlan → List Key
+target_keys r =
+    number (codes "port" ∷ []) r.port
+    ∷ number (codes "subport" ∷ []) r.subport
+    ∷ word (codes "pipe" ∷ []) (pipe_word r.pipe)
+    ∷ []
+
 -- `[rule N]`
 unfoldable pub rule_block : List MeterPlan → RulePlan → Block
 rule_block meters r =
@@ -287,6 +322,16 @@ rule_block meters r =
           ∷ record { words = codes "code" ∷ []; value = code_words r.code }
           ∷ meter_keys meters r.meter;
     }
+
+-- the sections of the pool, the ports and the profiles
+abbrev pub first_blocks : Plan → List Block
+first_blocks p =
+    pool_block p.pool ∷ each port_block p.ports ++ map subport_kind_block p.subport_kinds ++ map pipe_kind_block p.pipe_kinds
+
+-- the sections of the subports, the code points, the meters and the rules
+abbrev pub later_blocks : Plan → List Block
+later_blocks p =
+    subport_blocks 0 p.ports ++ codes_block p.codes ∷ map meter_block p.meters ++ map (rule_block p.meters) p.rules
 
 -- all sections
 abbrev pub blocks_of : Plan → List Block

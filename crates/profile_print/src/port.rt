@@ -2,7 +2,7 @@
 ghost use Rattle.std.specs.Prelude.{◌≡◌, ◌++◌, OnOk};
 ghost use Rattle.std.specs.List.{flat_map};
 ghost use Rattle.profile_print.specs.Written.{key_text, block_text, each};
-ghost use Rattle.profile_print.specs.Text.{pool_block, port_block, drain_key};
+ghost use Rattle.profile_print.specs.Text.{pool_block, size_keys, port_block, drain_key};
 
 use crate::text::Text;
 use crate::text::Word::{Is, Number};
@@ -36,11 +36,18 @@ fn write_port(text: &mut Text, number: u64, port: &PortPlan) -> Result<(), NoMem
     text.head(&[Is("port"), Number(number)])?;
     text.number(&[Is("line"), Is("rate")], port.line)?;
     text.number(&[Is("subports")], subports)?;
+    write_sizes(text, port)?;
+    write_drain(text, port.drain)?;
+    Ok(())
+}
+
+fn write_sizes(text: &mut Text, port: &PortPlan) -> Result<(), NoMemory>
+    ensures { OnOk result (text.new ≡ text.old ++ flat_map key_text (size_keys port.now)) }
+{
     text.number(&[Is("frame"), Is("overhead")], u64::from(port.overhead))?;
     text.number(&[Is("mtu")], u64::from(port.mtu))?;
     text.number(&[Is("burst")], u64::from(port.burst))?;
     text.number(&[Is("quantum")], port.quantum)?;
-    write_drain(text, port.drain)?;
     Ok(())
 }
 

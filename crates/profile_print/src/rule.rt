@@ -3,7 +3,7 @@ ghost use Rattle.std.specs.Prelude.{◌≡◌, ◌++◌, ◌∷◌, [], ◌<◌,
 ghost use Rattle.std.specs.List.{flat_map};
 ghost use Rattle.profile_lines.specs.Lines.{Entry};
 ghost use Rattle.profile_print.specs.Written.{line_text, key_text, block_text};
-ghost use Rattle.profile_print.specs.Text.{input_word, vlan_word, proto_word, prefix_or_any_word, pipe_word, code_words, meter_keys, rule_block};
+ghost use Rattle.profile_print.specs.Text.{input_word, vlan_word, proto_word, prefix_or_any_word, pipe_word, code_words, test_keys, target_keys, meter_keys, rule_block};
 ghost use Rattle.profile_print.specs.View.{word_of};
 
 use crate::codes::entry_words;
@@ -32,17 +32,31 @@ fn write_rule(text: &mut Text, meters: &[MeterPlan], rule: &RulePlan) -> Result<
     ensures { OnOk result (text.new ≡ text.old ++ block_text (rule_block meters.now rule.now)) }
 {
     text.head(&[Is("rule"), Number(u64::from(rule.number))])?;
+    write_tests(text, rule)?;
+    write_target(text, rule)?;
+    write_code(text, rule.code)?;
+    write_meter_name(text, meters, rule.meter)?;
+    Ok(())
+}
+
+// What a packet must have.
+fn write_tests(text: &mut Text, rule: &RulePlan) -> Result<(), NoMemory>
+    ensures { OnOk result (text.new ≡ text.old ++ flat_map key_text (test_keys rule.now)) }
+{
     text.word("input", input_word(rule.input))?;
     text.word("vlan", vlan_word(rule.vlan))?;
     text.word("proto", Is(proto_word(rule.proto)))?;
     text.word("src", prefix_or_any_word(rule.src))?;
-    text.word("dst", prefix_or_any_word(rule.dst))?;
+    text.word("dst", prefix_or_any_word(rule.dst))
+}
+
+// Where it goes.
+fn write_target(text: &mut Text, rule: &RulePlan) -> Result<(), NoMemory>
+    ensures { OnOk result (text.new ≡ text.old ++ flat_map key_text (target_keys rule.now)) }
+{
     text.number(&[Is("port")], u64::from(rule.port))?;
     text.number(&[Is("subport")], u64::from(rule.subport))?;
-    text.word("pipe", pipe_word(rule.pipe))?;
-    write_code(text, rule.code)?;
-    write_meter_name(text, meters, rule.meter)?;
-    Ok(())
+    text.word("pipe", pipe_word(rule.pipe))
 }
 
 fn input_word(input: Option<u32>) -> Word<'static>

@@ -2,7 +2,7 @@
 ghost use Rattle.std.specs.Prelude.{◌≡◌, ◌++◌, OnOk};
 ghost use Rattle.std.specs.List.{flat_map};
 ghost use Rattle.profile_print.specs.Written.{key_text, block_text, each};
-ghost use Rattle.profile_print.specs.Text.{pipe_key, yes_word, subport_block, subport_blocks};
+ghost use Rattle.profile_print.specs.Text.{pipe_key, queue_keys, yes_word, subport_block, subport_blocks};
 
 use crate::text::Text;
 use crate::text::Word::{Is, Number};
@@ -40,10 +40,17 @@ fn write_subport(
     text.head(&[Is("subport"), Number(port), Number(number)])?;
     text.number(&[Is("profile")], u64::from(subport.kind))?;
     text.number(&[Is("pipes")], pipes.len() as u64)?;
-    text.numbers(&[Is("queue"), Is("sizes")], &subport.sizes)?;
-    write_pipes(text, pipes)?;
-    text.word("oversubscription", Is(yes_word(subport.oversub)))?;
+    write_queues(text, subport)?;
     Ok(())
+}
+
+// The queues of a subport, its pipes and whether it is oversubscribed.
+fn write_queues(text: &mut Text, subport: &SubportPlan) -> Result<(), NoMemory>
+    ensures { OnOk result (text.new ≡ text.old ++ flat_map key_text (queue_keys subport.now)) }
+{
+    text.numbers(&[Is("queue"), Is("sizes")], &subport.sizes)?;
+    write_pipes(text, subport.pipes.as_slice())?;
+    text.word("oversubscription", Is(yes_word(subport.oversub)))
 }
 
 fn yes_word(on: bool) -> &'static str

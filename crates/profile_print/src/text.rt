@@ -14,7 +14,7 @@ use std::fmt::Write;
 use std::marker::Model;
 
 /// A word of a line.
-#[derive(Clone, Copy, Debug)]
+#[derive(Clone, Copy)]
 pub(crate) enum Word<'a> {
     /// This word.
     Is(&'a str),
@@ -27,7 +27,7 @@ pub(crate) enum Word<'a> {
 }
 
 /// A text, of which contracts see the bytes.
-#[derive(Debug, Drop)]
+#[derive(Drop)]
 pub(crate) struct Text {
     bytes: Vec<u8>,
     /// Where a number is written before it is added, so that no number takes memory of its own.
@@ -82,15 +82,18 @@ impl Text {
         ensures { OnOk result (self.new ≡ self.old ++ prefix_word prefix) }
     {
         let addr = prefix.addr;
-        self.push_number(u64::from(addr / 16_777_216))?;
-        self.push(b".")?;
-        self.push_number(u64::from(addr / 65_536 % 256))?;
-        self.push(b".")?;
-        self.push_number(u64::from(addr / 256 % 256))?;
-        self.push(b".")?;
-        self.push_number(u64::from(addr % 256))?;
-        self.push(b"/")?;
+        self.push_octet(addr / 16_777_216, b".")?;
+        self.push_octet(addr / 65_536 % 256, b".")?;
+        self.push_octet(addr / 256 % 256, b".")?;
+        self.push_octet(addr % 256, b"/")?;
         self.push_number(u64::from(prefix.bits))
+    }
+
+    fn push_octet(&mut self, octet: u32, mark: &[u8]) -> Result<(), NoMemory>
+        ensures { OnOk result (self.new ≡ self.old ++ decimal octet ++ mark.now) }
+    {
+        self.push_number(u64::from(octet))?;
+        self.push(mark)
     }
 
     fn push_word(&mut self, word: Word) -> Result<(), NoMemory>

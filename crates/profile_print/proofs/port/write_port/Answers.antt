@@ -5,5 +5,5 @@ use Rattle.profile_print.proofs.port.write_port.Goals as goal
 pub returns : goal.returns
 unfolding port_block
 returns c =
-    rw (c.in_ok-write_drain.ensures, c.in_ok-number-6.ensures, c.in_ok-number-5.ensures, c.in_ok-number-4.ensures, c.in_ok-number-3.ensures, c.in_ok-number-2.ensures, c.in_ok-number.ensures, c.in_ok-head.ensures, c.from.ensures, c.from-2.ensures, c.from-3.ensures, c.as_slice.ensures)
+    rw (c.in_ok-write_drain.ensures, c.in_ok-write_sizes.ensures, c.in_ok-number-2.ensures, c.in_ok-number.ensures, c.in_ok-head.ensures, c.as_slice.ensures)
     (simp (append_assoc, append-nil))
