@@ -13,6 +13,7 @@ pub mod MeterNames
 pub mod Numbers
 pub mod PartLimits
 pub mod Patterns
+pub mod Picked
 pub mod PlanLimits
 pub mod PortLimits
 pub mod Ranges
