@@ -77,11 +77,8 @@ port_block n p =
       keys =
           number (codes "line" ∷ codes "rate" ∷ []) p.line
           ∷ number (codes "subports" ∷ []) (length p.subports)
-          ∷ number (codes "frame" ∷ codes "overhead" ∷ []) p.overhead
-          ∷ number (codes "mtu" ∷ []) p.mtu
-          ∷ number (codes "burst" ∷ []) p.burst
-          ∷ number (codes "quantum" ∷ []) p.quantum
-          ∷ drain_key p.drain
+          ∷ size_keys p
+          ++ drain_key p.drain
           ∷ [];
     }
 
@@ -153,10 +150,7 @@ subport_block port n s =
       keys =
           number (codes "profile" ∷ []) s.kind
           ∷ number (codes "pipes" ∷ []) (length s.pipes)
-          ∷ record { words = codes "queue" ∷ codes "sizes" ∷ []; value = map decimal s.sizes }
-          ∷ each pipe_key s.pipes
-          ++ word (codes "oversubscription" ∷ []) (yes_word s.oversub)
-          ∷ [];
+          ∷ queue_keys s;
     }
 
 -- the subports of ports, which are numbered from n on
@@ -311,27 +305,11 @@ rule_block meters r =
     record {
       head = codes "rule" ∷ decimal r.number ∷ [];
       keys =
-          word (codes "input" ∷ []) (input_word r.input)
-          ∷ word (codes "vlan" ∷ []) (vlan_word r.vlan)
-          ∷ word (codes "proto" ∷ []) (proto_word r.proto)
-          ∷ word (codes "src" ∷ []) (prefix_or_any_word r.src)
-          ∷ word (codes "dst" ∷ []) (prefix_or_any_word r.dst)
-          ∷ number (codes "port" ∷ []) r.port
-          ∷ number (codes "subport" ∷ []) r.subport
-          ∷ word (codes "pipe" ∷ []) (pipe_word r.pipe)
-          ∷ record { words = codes "code" ∷ []; value = code_words r.code }
+          test_keys r
+          ++ target_keys r
+          ++ record { words = codes "code" ∷ []; value = code_words r.code }
           ∷ meter_keys meters r.meter;
     }
-
--- the sections of the pool, the ports and the profiles
-abbrev pub first_blocks : Plan → List Block
-first_blocks p =
-    pool_block p.pool ∷ each port_block p.ports ++ map subport_kind_block p.subport_kinds ++ map pipe_kind_block p.pipe_kinds
-
--- the sections of the subports, the code points, the meters and the rules
-abbrev pub later_blocks : Plan → List Block
-later_blocks p =
-    subport_blocks 0 p.ports ++ codes_block p.codes ∷ map meter_block p.meters ++ map (rule_block p.meters) p.rules
 
 -- all sections
 abbrev pub blocks_of : Plan → List Block

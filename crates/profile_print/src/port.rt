@@ -41,6 +41,7 @@ fn write_port(text: &mut Text, number: u64, port: &PortPlan) -> Result<(), NoMem
     Ok(())
 }
 
+// Its overhead and sizes.
 fn write_sizes(text: &mut Text, port: &PortPlan) -> Result<(), NoMemory>
     ensures { OnOk result (text.new ≡ text.old ++ flat_map key_text (size_keys port.now)) }
 {
