@@ -4,7 +4,7 @@ use Rattle.std.specs.List.{sum_by, All}
 use Rattle.std.proofs.lemmas.Bool.{cases_lt, eqb-true}
 use Rattle.std.proofs.lemmas.List.Sums.{sum_by-cons, sum_by_push}
 use Rattle.std.proofs.lemmas.List.Elements.{All-same, All-push}
-use Rattle.std.proofs.lemmas.Option.{slice_get_within, get_or_from_slice_get}
+use Rattle.std.proofs.lemmas.Option.{slice_get_within, get_or_from_slice_get, none-some}
 use native.Mathlib.Decide.{ℕ_discrete}
 use mathlib.Core.Logic.{dite}
 use Rattle.crossbeam_utils.specs.Seq.{cell_view}
@@ -17,7 +17,7 @@ use Rattle.meter_table.specs.declared.table.MeterTable.{MeterTable}
 use Rattle.meter_table.specs.Gathered.{Fills}
 use Rattle.meter_table.specs.Kept.{Knows, StandsIn, IsSeen}
 use Rattle.meter_table.specs.Log.{IsLegalLog, made_at}
-use Rattle.meter_table.specs.Logs.{AreAllMarks, IsLogOf, Among}
+use Rattle.meter_table.specs.Logs.{AreAllMarks, AreLogs, IsLogOf, Among}
 use Rattle.meter_table.specs.Seats.{settings_of, marks_by, parts_at, view_at, HasPasses, IsSeatOf, AreAllSeats}
 use Rattle.meter_table.proofs.Passes.{APass, OneChanged, marks_is, parts_is, view_is, now, others, has_passes}
 use Rattle.meter_table.proofs.Tables.{count_is}
@@ -46,6 +46,21 @@ pub made_some : (turn : ℕ) (marks : List Mark) → 0 < made_at turn marks → 
 made_some turn marks some =
     let found = sum_some (λ (m : Mark). cond {A = ℕ} (eqb m.turn turn) 1 0) marks some in
     (found.0, found.1, found.2, eqb-true _ _ (flagged (eqb found.1.turn turn) found.3))
+
+-- a table of which there is no seat has no meter
+pub none_left : (t : MeterTable) (seats : List MeterSeat) (logs : List MeterLog) → AreAllSeats t seats → length seats ≡ 0 → logs ≡ [] → AreLogs t seats logs
+none_left t (s ∷ ss) logs are none is = absurd (omega arith)
+none_left t [] logs are none is =
+    let no_cell : length t.cells.items ≡ 0 = elim (cases_lt 0 (length t.cells.items)) [
+      | inl some ↦ let parts = are.parts 0 some in absurd (omega arith)
+      | inr less ↦ omega arith
+    ] in
+    let counts = count_is t in
+    let lengths = ap (λ (l : List MeterLog). length l) is in
+    record {
+      count = omega arith;
+      each = λ meter setting log at at'. absurd (none-some log (sym (ap (λ l. slice_get l meter) is) ∙ at'));
+    }
 
 -- a seat that has all parts and all marks of these seats
 pub record IsWhole (t : MeterTable) (seats : List MeterSeat) (all : MeterSeat) : Type 0 where

@@ -1,13 +1,14 @@
-use Rattle.std.proofs.Common.{◌≡◌, slice_get, rules, arith, refl, ap, sym, ◌∙◌, subst, ⊎_elim}
+use Rattle.std.proofs.Common.{◌≡◌, length, slice_get, rules, arith, refl, ap, sym, ◌∙◌, subst, ⊎_elim, ◌∷◌, []}
+use Rattle.std.proofs.lemmas.List.Elements.{All-same, All-weaker}
 use Rattle.std.proofs.lemmas.Option.{none-some, same_Some}
 use Rattle.meter_table.specs.declared.seat.MeterSeat.{MeterSeat}
 use Rattle.meter_table.specs.Kept.{IsSeen}
 use Rattle.meter_table.specs.Logs.{AreAllMarks, IsLogOf}
-use Rattle.meter_table.specs.Seats.{settings_of}
-use Rattle.meter_table.proofs.Logs.{at_push}
+use Rattle.meter_table.specs.Seats.{settings_of, HasPasses, IsSeatOf}
+use Rattle.meter_table.proofs.Logs.{all_left, at_push}
 use Rattle.meter_table.proofs.Passes.{APass, read, alike_at, view_is}
-use Rattle.meter_table.proofs.Tables.{pass_read, pass_meter, setting_at}
-use Rattle.meter_table.proofs.Ended.{whole_of, look_whole, fills, log_is}
+use Rattle.meter_table.proofs.Tables.{count_is, passes_count, pass_read, pass_meter, setting_at}
+use Rattle.meter_table.proofs.Ended.{none_left, whole_of, look_whole, fills, log_is}
 use Rattle.meter_table.proofs.table.MeterTable.gather.Goals as goal
 
 pub loop-n-init : goal.loop-n-init
@@ -80,3 +81,23 @@ loop-n-preserved g c =
           (at_push c.loop-n.logs.items c.in_ok-log_of.field-0 log k (ap (λ l. slice_get l k) (sym c.push_reserved.ensures.items) ∙ at_log));
       room = search rules;
     }
+
+pub returns-in_default : goal.returns-in_default
+returns-in_default g c =
+    let none : length c.args.seats.items ≡ 0 = omega (arith, c.in_default.ensures.cases.0, c.args.seats.ok) in
+    none_left c.args.self c.args.seats.items c.in_ok-logs.logs.items c.requires.seats none c.in_ok-logs.ensures.items
+
+pub join_all-all-requires-clause-seats : goal.join_all-all-requires-clause-seats
+join_all-all-requires-clause-seats g c =
+    let Has : MeterSeat → Type 0 = HasPasses c.args.self in
+    let each = All-weaker (IsSeatOf c.args.self) Has (λ s is. is.passes) c.args.seats.items c.requires.seats.each in
+    all_left Has c.pop.new.self.items (c.in-Some.first ∷ []) (All-same Has _ _ (sym c.in-Some.ensures.items) each)
+
+pub index_mut-requires : goal.index_mut-requires
+index_mut-requires g c = let counts = passes_count c.args.self c.loop-n.all c.loop-n.invariant.whole.has in omega arith
+
+pub returns : goal.returns
+returns g c =
+    let was = c.loop-n.invariant in
+    let counts = count_is c.args.self in
+    record { count = omega arith; each = was.logs }
