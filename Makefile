@@ -1,8 +1,8 @@
 # make: proves and builds the program with all processors, and puts the gateway's capture through the gateway's profile.
-# make demo: compiles the program without its proofs and does the same, in about a minute.
+# make demo: compiles the program without its proofs and does the same, in some 35 seconds.
 # PROFILE=examples/metered.profile behind either: the gateway with meters.
 # make install PREFIX=DIR: puts the built program at DIR/bin/qos.
-# make bench: how fast the built program is on a million packets, beside a plain copy.
+# make bench: how fast the built program is on a million packets, beside plain copies.
 
 PROGRAM = crates/qos/out/qos
 PREFIX = /usr/local
