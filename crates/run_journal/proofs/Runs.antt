@@ -45,7 +45,7 @@ abbrev pub seen_as : {T : Type 0} → Pace → Port Pkt → List Entry → Pacer
 seen_as pace start journal pacer port = record { pace = pace; start = start; journal = journal; pacer = pacer; port = port }
 
 abbrev zeros : Tally
-zeros = record { arrived = 0; dropped = 0; dequeues = 0 }
+zeros = record { arrived = 0; dropped = 0; sent = 0; dequeues = 0 }
 
 module _ {T : Type 0} (packet : T → Pkt) where
   abbrev pub Sound : Port Pkt → Run T → Type 0
@@ -67,7 +67,7 @@ module _ {T : Type 0} (packet : T → Pkt) where
       went_is = refl;
       quantum_is = refl;
       burst = limits.burst.1;
-      tally_is = record { arrived = refl; dropped = refl; dequeues = refl };
+      tally_is = record { arrived = refl; dropped = refl; sent = refl; dequeues = refl };
       few = omega arith;
     }
 
@@ -139,6 +139,11 @@ module _ {T : Type 0} (packet : T → Pkt) where
       schedule-went : Sound start r → PacketsDecide packet r.port → (schedule_from start journal_after).went ≡ nat_lt 0 (length made.sends)
       schedule-went sound decide = ap (λ (s : Schedule). s.went) step ∙ ap (nat_lt 0) (count-made sound decide)
 
+      sent-after : Sound start r → PacketsDecide packet r.port → length (schedule_from start journal_after).sends ≡ length before.sends + length made.sends
+      sent-after sound decide =
+          ap length (schedule-sends sound decide) ∙ length-append before.sends (map (seen_send packet) made.sends)
+          ∙ ap (λ n. length before.sends + n) (length-map made.sends (seen_send packet))
+
       -- the run after it
       pub record Dequeued (to : Run T) (sent : ℕ) : Type 0 where
         pub pace : to.pace ≡ r.pace
@@ -146,7 +151,7 @@ module _ {T : Type 0} (packet : T → Pkt) where
         pub sent_is : sent ≡ length made.sends
         pub pacer : to.pacer ≡ record r.pacer { went = nat_lt 0 sent }
         pub journal : to.journal ≡ journal_after
-        pub tally : to.tally ≡ record r.tally { dequeues = r.tally.dequeues + 1 }
+        pub tally : to.tally ≡ record r.tally { sent = r.tally.sent + sent; dequeues = r.tally.dequeues + 1 }
 
       abbrev dequeued : ℕ → Run T
       dequeued sent = record {
@@ -154,7 +159,7 @@ module _ {T : Type 0} (packet : T → Pkt) where
         port = made.port;
         pacer = record r.pacer { went = nat_lt 0 sent };
         journal = journal_after;
-        tally = record r.tally { dequeues = r.tally.dequeues + 1 };
+        tally = record r.tally { sent = r.tally.sent + sent; dequeues = r.tally.dequeues + 1 };
       }
 
       dequeued-is : (to : Run T) (sent : ℕ) → Dequeued to sent → to ≡ dequeued sent
@@ -177,6 +182,7 @@ module _ {T : Type 0} (packet : T → Pkt) where
             tally_is = record {
               arrived = sound.tally_is.arrived ∙ sym arrivals;
               dropped = sound.tally_is.dropped ∙ sym (ap (λ (s : Schedule). length s.drops) step);
+              sent = omega (arith, sent-after sound decide, count, sound.tally_is.sent);
               dequeues = ap (λ n. n + 1) sound.tally_is.dequeues ∙ sym (dequeues_in-dequeue r.journal now r.pace.burst);
             };
             few = sound.few;
@@ -245,13 +251,14 @@ module _ {T : Type 0} (packet : T → Pkt) where
             tally_is = record {
               arrived = ap (λ n. n + 1) sound.tally_is.arrived ∙ sym arrive-count;
               dropped = sound.tally_is.dropped ∙ sym (ap (λ (s : Schedule). length s.drops) step);
+              sent = sound.tally_is.sent ∙ sym (ap (λ (s : Schedule). length s.sends) step);
               dequeues = sound.tally_is.dequeues ∙ sym (dequeues_in-arrive r.journal (packet t));
             };
             few = omega (arith, few);
           }
 
       abbrev turned_away : Run T
-      turned_away = record r { journal = arrivals_after; tally = record { arrived = r.tally.arrived + 1; dropped = r.tally.dropped + 1; dequeues = r.tally.dequeues } }
+      turned_away = record r { journal = arrivals_after; tally = record r.tally { arrived = r.tally.arrived + 1; dropped = r.tally.dropped + 1 } }
 
       sound-turned_away : Sound start r → PacketsDecide packet r.port → IsTrue (has_place (packet t) start) → r.tally.arrived < MAX_ARRIVALS → is_full (packet t) r.port ≡ true → Sound start turned_away
       sound-turned_away sound decide placed few shut =
@@ -272,6 +279,7 @@ module _ {T : Type 0} (packet : T → Pkt) where
             tally_is = record {
               arrived = ap (λ n. n + 1) sound.tally_is.arrived ∙ sym arrive-count;
               dropped = ap (λ n. n + 1) sound.tally_is.dropped ∙ sym dropped;
+              sent = sound.tally_is.sent ∙ sym (ap (λ (s : Schedule). length s.sends) step);
               dequeues = sound.tally_is.dequeues ∙ sym (dequeues_in-arrive r.journal (packet t));
             };
             few = omega (arith, few);
@@ -290,7 +298,7 @@ module _ {T : Type 0} (packet : T → Pkt) where
         pub port : to.port ≡ r.port
         pub pacer : to.pacer ≡ r.pacer
         pub journal : to.journal ≡ arrivals_after
-        pub tally : to.tally ≡ record { arrived = r.tally.arrived + 1; dropped = r.tally.dropped + 1; dequeues = r.tally.dequeues }
+        pub tally : to.tally ≡ record r.tally { arrived = r.tally.arrived + 1; dropped = r.tally.dropped + 1 }
 
       joined-is : (to : Run T) → Joined to → to ≡ joined
       joined-is to j = same_run to joined j.pace j.port j.pacer j.journal j.tally

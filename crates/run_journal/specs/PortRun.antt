@@ -54,6 +54,7 @@ run_start profile port = option_map (new_run profile) (slice_get profile.ports p
 pub record IsTally (start : Port Pkt) (journal : List Entry) (tally : Tally) : Type 0 where
   pub arrived : tally.arrived ≡ length (arrivals_of journal)
   pub dropped : tally.dropped ≡ length (schedule_from start journal).drops
+  pub sent : tally.sent ≡ length (schedule_from start journal).sends
   pub dequeues : tally.dequeues ≡ dequeues_in journal
 
 pub record HasCounts (journal : List Entry) (schedule : Schedule) (counts : PortCounts) : Type 0 where

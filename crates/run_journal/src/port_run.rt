@@ -114,6 +114,7 @@ impl<'p, T: Parcel> PortRun<'p, T> {
             tally: Tally {
                 arrived: 0,
                 dropped: 0,
+                sent: 0,
                 dequeues: 0,
             },
         })
@@ -148,8 +149,14 @@ impl<'p, T: Parcel> PortRun<'p, T> {
     pub fn sent(&self) -> u64
         ensures { result ≡ length (schedule self.now).sends }
     {
-        packets_decide::<T>();
-        self.tally.arrived - self.tally.dropped - self.sched.queued()
+        self.tally.sent
+    }
+
+    // How many packets wait.
+    fn waiting(&self) -> u64
+        ensures { result ≡ queued (schedule self.now).port }
+    {
+        self.tally.arrived - self.tally.dropped - self.tally.sent
     }
 
     /// The numbers by which it is paced.
@@ -176,7 +183,8 @@ impl<'p, T: Parcel> PortRun<'p, T> {
         ensures went { self.old.pacer.went ≡ (schedule self.old).went }
     {
         packets_decide::<T>();
-        self.pacer.next(self.sched.queued(), self.sched.time())
+        let waiting = self.waiting();
+        self.pacer.next(waiting, self.sched.time())
     }
 
     /// The moment of the dequeue that follows an arrival. None where port time is past the clock.
@@ -212,6 +220,7 @@ impl<'p, T: Parcel> PortRun<'p, T> {
         let sent = serve::<T, Brand>(&mut self.sched, now, room, out, Blank::new(1));
         self.journal.push_reserved(Entry::Dequeue { now, room });
         self.pacer.went(sent > 0);
+        self.tally.sent += u64::from(sent);
         self.tally.dequeues += 1;
         Ok(())
     }
@@ -252,6 +261,7 @@ impl<'p, T: Parcel> PortRun<'p, T> {
         ensures left { result.1 ≡ self.entry.port }
     {
         packets_decide::<T>();
+        let left = self.waiting();
         let PortRun {
             profile: _,
             plan: _,
@@ -264,7 +274,7 @@ impl<'p, T: Parcel> PortRun<'p, T> {
         let counts = PortCounts {
             arrived: tally.arrived,
             sent,
-            left: sched.queued(),
+            left,
             tailfull: tally.dropped,
             unwritten,
             dequeues: tally.dequeues,

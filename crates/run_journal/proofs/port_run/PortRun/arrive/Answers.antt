@@ -52,7 +52,7 @@ invariant_of-self-in-Err g c =
     let start = started i.profile.now i.plan.now in
     let old : Run g.row.T.Denot = record { pace = i.pace; port = i.sched; pacer = i.pacer; journal = i.journal.items; tally = i.tally } in
     let new : Run g.row.T.Denot =
-    record { pace = i.pace; port = c.arrive.new.self; pacer = i.pacer; journal = c.push_reserved.new.self.items; tally = record { arrived = i.tally.arrived + 1; dropped = i.tally.dropped + 1; dequeues = i.tally.dequeues } } in
+    record { pace = i.pace; port = c.arrive.new.self; pacer = i.pacer; journal = c.push_reserved.new.self.items; tally = record i.tally { arrived = i.tally.arrived + 1; dropped = i.tally.dropped + 1 } } in
     let few : length (arrivals_of i.journal.items) < MAX_ARRIVALS = rw (← ap (λ (r : RunState g.row.T.Denot). length (arrivals_of r.journal)) c.self.view_is) at c.requires.few in
     let placed : IsTrue (has_place (g.T.Parcel.packet c.args.parcel) start) = subst (λ (s : Port Pkt). IsTrue (has_place (g.T.Parcel.packet c.args.parcel) s)) (sym (ap (λ (r : RunState g.row.T.Denot). r.start) c.self.view_is)) c.requires.place in
     let away : TurnedAway g.T.Parcel.packet start old c.args.parcel new = record { pace = refl; port = c.in-Err.ensures.refused.1; pacer = refl; journal = pushed_away g c; tally = refl } in

@@ -14,28 +14,34 @@ serve-sent-requires-clause-time g c =
 
 pub overflow_add-self : goal.overflow_add-self
 overflow_add-self g c =
+    let i = c.self.inside in
+    let few = sends-few g.T.Parcel.packet _ (record { pace = i.pace; port = i.sched; pacer = i.pacer; journal = i.journal.items; tally = i.tally }) c.self.invariant in
+    omega (arith, few, c.self.invariant.tally_is.sent)
+
+pub overflow_add-self-2 : goal.overflow_add-self-2
+overflow_add-self-2 g c =
     let journal = c.self.inside.journal in
     omega (arith, c.self.invariant.tally_is.dequeues, dequeues_in-le journal.items, journal.ok.0, journal.ok.1, journal.small)
 
-pushed : (g : _) (c : goal.After-self-1 g) → c.push_reserved.new.self.items ≡ c.self.inside.journal.items ++ Dequeue c.args.now c.self.inside.pace.burst ∷ []
+pushed : (g : _) (c : goal.After-self-2-1 g) → c.push_reserved.new.self.items ≡ c.self.inside.journal.items ++ Dequeue c.args.now c.self.inside.pace.burst ∷ []
 pushed g c = c.push_reserved.ensures.items ∙ ap (λ js. js ++ Dequeue c.args.now c.self.inside.pace.burst ∷ []) c.in_ok-reserve.ensures.items
 
-abbrev from : (g : _) → goal.After-self-1 g → Run g.row.T.Denot
+abbrev from : (g : _) → goal.After-self-2-1 g → Run g.row.T.Denot
 from g c = let i = c.self.inside in record { pace = i.pace; port = i.sched; pacer = i.pacer; journal = i.journal.items; tally = i.tally }
 
-abbrev to : (g : _) → goal.After-self-1 g → Run g.row.T.Denot
+abbrev to : (g : _) → goal.After-self-2-1 g → Run g.row.T.Denot
 to g c =
     let i = c.self.inside in
-    record { pace = i.pace; port = c.serve-sent.new.sched; pacer = c.went.new.self; journal = c.push_reserved.new.self.items; tally = record i.tally { dequeues = i.tally.dequeues + 1 } }
+    record { pace = i.pace; port = c.serve-sent.new.sched; pacer = c.went.new.self; journal = c.push_reserved.new.self.items; tally = record i.tally { sent = i.tally.sent + c.from.result; dequeues = i.tally.dequeues + 1 } }
 
-dequeued : (g : _) (c : goal.After-self-1 g) → Dequeued g.T.Parcel.packet (started c.self.inside.profile.now c.self.inside.plan.now) (from g c) c.args.now (to g c) c.serve-sent.result
+dequeued : (g : _) (c : goal.After-self-2-1 g) → Dequeued g.T.Parcel.packet (started c.self.inside.profile.now c.self.inside.plan.now) (from g c) c.args.now (to g c) c.serve-sent.result
 dequeued g c = record {
   pace = refl;
   port = c.serve-sent.ensures.state;
   sent_is = c.serve-sent.ensures.count;
   pacer = c.went.ensures;
   journal = pushed g c;
-  tally = refl;
+  tally = let t = c.self.inside.tally in ap (λ n. record t { sent = t.sent + n; dequeues = t.dequeues + 1 }) c.from.ensures;
 }
 
 pub invariant_of-self-2 : goal.invariant_of-self-2
