@@ -69,12 +69,23 @@ impl Bucket {
         steps.tick();
         let ahead = time - self.time;
         if ahead >= self.period {
-            let periods = ahead / self.period;
+            let periods = self.periods_in(ahead);
             self.time += periods * self.period;
             self.credits = periods
                 .saturating_mul(self.per_period)
                 .saturating_add(self.credits)
                 .min(self.size);
+        }
+    }
+
+    // How many whole periods so many byte times have. The bucket of a whole line has a period of one, and takes no division.
+    fn periods_in(&self, ahead: u64) -> u64
+        ensures { result ≡ ahead / self.now.period }
+    {
+        if self.period == 1 {
+            ahead
+        } else {
+            ahead / self.period
         }
     }
 

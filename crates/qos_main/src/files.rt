@@ -168,6 +168,7 @@ impl Source for FileSource {
 }
 
 // Reads again where a signal interrupts the read.
+#[inline(always)]
 fn read_some(reader: &mut BufReader<File>, buf: &mut [u8]) -> Option<usize>
     ensures { IfSome result (λ n. n ≤ length buf.old) }
 {

@@ -10,7 +10,7 @@ use std::marker::Model;
 ///
 /// A queue's number is the place of its ring in one row, so it is found at once. A ring's own numbers are
 /// 32 bytes, and its packets lie in a block of their own: a call touches that entry of the row and one place
-/// of the block.
+/// of the block. How many queues have a packet is counted, so whether any has one is known without a look at them.
 #[derive(Drop)]
 pub struct QueueStore<T: Parcel> {
     rings: Vec<HeapCircularBuffer<T>>,
@@ -95,6 +95,7 @@ impl<T: Parcel> QueueStore<T> {
     {
         self.rings[queue as usize].len() as u32
     }
+
     /// Whether a packet waits in any queue.
     pub fn has_packet(&self) -> bool
         ensures { result ≡ has_packet self.now }

@@ -10,7 +10,8 @@ invariant_of-self g c =
     let b : TokenBucket = record { size = f.size; per_period = f.per_period; period = f.period; time = f.time; credits = f.credits } in
     let later : f.time ≤ c.args.time = subst (λ (x : TokenBucket). x.time ≤ c.args.time) (sym c.self.view_is) c.requires.not_past in
     let credits : c.min-self-inside.result ≡ min f.size (f.credits + (c.args.time - f.time) / f.period * f.per_period) = grind (arith, common_steps) in
-    rw credits (bucket_at-ok b c.args.time c.self.invariant later c.requires.time)
+    let periods : c.periods_in-periods.result ≡ (c.args.time - f.time) / f.period = grind (arith, common_steps) in
+    rw credits (rw periods (bucket_at-ok b c.args.time c.self.invariant later c.requires.time))
 
 pub returns-then-ahead-self-clause-stepwise : goal.returns-then-ahead-self-clause-stepwise
 returns-then-ahead-self-clause-stepwise g c =
