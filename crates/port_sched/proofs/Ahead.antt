@@ -74,19 +74,21 @@ module _ {T : Type 0} (s : SubportBooks T) (within : s.cursor < length s.pipes.i
         ∙ ap has_packet (get_or-map pipe_of s.pipes.items i d (pipe_of d) inside)
 
     -- the pipe so far ahead of the cursor
-    pub pipe-ahead : (ahead : ℕ) (p : PipeBooks T) → ahead < pipes → p ≡ get_or s.pipes.items ((s.cursor + ahead) % pipes) p
+    pub pipe-ahead : (ahead place : ℕ) (p : PipeBooks T) → ahead < pipes → place ≡ (s.cursor + ahead) % pipes
+        → p ≡ get_or s.pipes.items place p
         → get_or (round_from s.cursor (active (subport_of s))) ahead false ≡ has_packet (pipe_of p)
-    pipe-ahead ahead p small is =
+    pipe-ahead ahead place p small there is =
         round_is (active (subport_of s)) s.cursor cursor-within ahead (omega (arith, length-active))
         ∙ ap (λ n. get_or (active (subport_of s)) ((s.cursor + ahead) % n) false) length-active
-        ∙ active-at ((s.cursor + ahead) % pipes) p (omega arith) ∙ ap (λ q. has_packet (pipe_of q)) (sym is)
+        ∙ ap (λ i. get_or (active (subport_of s)) i false) (sym there)
+        ∙ active-at place p (omega (arith, there)) ∙ ap (λ q. has_packet (pipe_of q)) (sym is)
 
-    pub next_pipe-found : (ahead : ℕ) → ahead < pipes
+    pub next_pipe-found : (ahead place : ℕ) → ahead < pipes → place ≡ (s.cursor + ahead) % pipes
         → ((k : ℕ) → k < ahead → get_or (round_from s.cursor (active (subport_of s))) k false ≡ false)
         → get_or (round_from s.cursor (active (subport_of s))) ahead false ≡ true
-        → Some ((s.cursor + ahead) % pipes) ≡ next_active s.cursor (active (subport_of s))
-    next_pipe-found ahead small before here =
-        ap (λ n. Some ((s.cursor + ahead) % n)) (sym length-active)
+        → Some place ≡ next_active s.cursor (active (subport_of s))
+    next_pipe-found ahead place small there before here =
+        ap Some there ∙ ap (λ n. Some ((s.cursor + ahead) % n)) (sym length-active)
         ∙ sym (next_active-found (active (subport_of s)) s.cursor cursor-within ahead (omega (arith, length-active)) before here)
 
     pub next_pipe-none : (ahead : ℕ) → pipes ≤ ahead

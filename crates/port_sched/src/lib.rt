@@ -17,6 +17,7 @@ pub mod laws;
 mod level;
 mod pipe;
 mod port;
+mod round;
 mod serving;
 mod shares;
 mod start;

@@ -1,6 +1,7 @@
 //! A port of a profile: its subports, their pipes, and the scheduler over them.
 ghost use Rattle.std.specs.Prelude.{◌≡◌, ◌≤◌, ◌<◌, ◌+◌, ◌*◌, ◌%◌, ◌^◌, ◌++◌, length, max, slice_get, vec_len, vec_capacity};
 
+use crate::round::around;
 use crate::serving::Serving;
 use crate::subport::SubportBooks;
 use qos_base::{Departure, Parcel, Steps};
@@ -73,7 +74,7 @@ impl<T: Parcel> PortSched<T> {
         let subports = self.subports.len();
         let mut left = room;
         for ahead in 0..subports {
-            left = self.turn((from + ahead) % subports, left, first, out, steps);
+            left = self.turn(around(from + ahead, subports), left, first, out, steps);
         }
         room - left
     }
@@ -139,7 +140,7 @@ impl<T: Parcel> PortSched<T> {
         ensures { self.new ≡ record self.old { cursor = (subport + 1) % length self.old.subports } }
     {
         let subports = self.subports.len();
-        self.cursor = (subport + 1) % subports;
+        self.cursor = around(subport + 1, subports);
     }
 
     // How many pipes of a subport have a packet.

@@ -7,6 +7,7 @@ ghost use Rattle.port_sched.specs.Books.{subport_of};
 
 use crate::level::LevelBooks;
 use crate::pipe::PipeBooks;
+use crate::round::around;
 use credit_book::Watermark;
 use qos_base::Parcel;
 
@@ -43,7 +44,7 @@ impl<T: Parcel> SubportBooks<T> {
     {
         let pipes = self.pipes.len();
         for ahead in 0..pipes {
-            let pipe = (self.cursor + ahead) % pipes;
+            let pipe = around(self.cursor + ahead, pipes);
             if self.pipes[pipe].has_packet() {
                 return Some(pipe);
             }

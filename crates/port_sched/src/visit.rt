@@ -8,6 +8,7 @@ ghost use Rattle.port_sched.specs.Books.{service_of, subport_of, pipe_of, IsSubp
 
 use crate::level::BEST_EFFORT;
 use crate::pipe::PipeBooks;
+use crate::round::around;
 use crate::serving::Serving;
 use crate::subport::SubportBooks;
 use qos_base::{Departure, Parcel, Steps};
@@ -110,5 +111,9 @@ fn moved_cursor(pipe: usize, pipes: usize, room: u32) -> usize
     ensures exact { result ≡ cursor_after pipe pipes room }
     ensures within { result < pipes }
 {
-    if room == 0 { pipe } else { (pipe + 1) % pipes }
+    if room == 0 {
+        pipe
+    } else {
+        around(pipe + 1, pipes)
+    }
 }

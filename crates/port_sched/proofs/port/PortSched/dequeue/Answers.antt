@@ -23,7 +23,7 @@ loop-ahead-preserved g c =
           (λ p. length p.subports) c.self.view_is,
     ) in
     let place =
-    ap (λ n. (n + c.loop-ahead.ahead) % c.len-subports.result) cursor ∙ ap (λ n. (port.cursor + c.loop-ahead.ahead) % n) count in
+    c.around.ensures ∙ ap (λ n. (n + c.loop-ahead.ahead) % c.len-subports.result) cursor ∙ ap (λ n. (port.cursor + c.loop-ahead.ahead) % n) count in
     record {
       so_far = HaveTurned-more g.T.Parcel.packet _ c.loop-ahead.ahead _ _
           (course_of c.len-first.result (stage c.turn-left.new.self c.turn-left.result c.turn-left.new.out)) so_far.so_far

@@ -3,8 +3,8 @@ use Rattle.std.proofs.lemmas.List.{length-map}
 use Rattle.port_sched.specs.Books.{subport_of}
 use Rattle.port_sched.proofs.port.PortSched.move_on.Goals as goal
 
-pub overflow_add-self : goal.overflow_add-self
-overflow_add-self g c =
+pub overflow_add-subport : goal.overflow_add-subport
+overflow_add-subport g c =
     let count : length c.args.self.now.subports ≡ length c.self.inside.subports.items =
     sym (ap (λ p. length p.subports) c.self.view_is) ∙ length-map c.self.inside.subports.items subport_of in
     omega (arith, c.len-subports.ensures, c.self.inside.subports.ok.0)
