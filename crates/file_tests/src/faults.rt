@@ -4,7 +4,7 @@ use crate::faulty::{Call, FaultyShelf, Planned};
 use crate::seen::{FINE, NOTHING, PortNumbers, Seen, UNREAD, run, same, says, wanted};
 use crate::text::report_of;
 use qos_io::{MemShelf, PutFault, WholeSink};
-use qos_pcap::{PcapFault, Stop};
+use qos_main::{PcapFault, Stop};
 use std::process::Abort;
 use std::sync::Wait;
 use std::thread::Threads;

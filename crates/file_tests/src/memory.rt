@@ -3,7 +3,7 @@ use crate::faults::{NONE, Row, WHOLE, check};
 use crate::faulty::{Call, Planned};
 use crate::seen::{FINE, NOTHING, Seen};
 use qos_io::PutFault;
-use qos_pcap::{PcapFault, Stop};
+use qos_main::{PcapFault, Stop};
 
 // A failure of the capture's opening, the start of the other plans.
 const UNOPENED: Planned<'static> = Planned {

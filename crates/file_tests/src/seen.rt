@@ -1,8 +1,7 @@
 //! What a command over two ports ended with, in one value that tests compare.
 use crate::build::words_of;
 use qos_io::{OpenGate, Shelf, Sink};
-use qos_main::{Ended, InputEnd, Note, PortEnd, qos_top};
-use qos_pcap::Stop;
+use qos_main::{Ended, InputEnd, Note, PortEnd, Stop, qos_top};
 use std::fmt::Debug;
 use std::process::Abort;
 use std::sync::Wait;

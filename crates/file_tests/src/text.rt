@@ -1,7 +1,6 @@
 //! The text of the report of a run over two ports, from its numbers.
 use crate::seen::{PortNumbers, Seen};
-use qos_main::Note;
-use qos_pcap::{PcapFault, Stop};
+use qos_main::{Note, PcapFault, Stop};
 use std::fmt::Write;
 use std::process::Abort;
 

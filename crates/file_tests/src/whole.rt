@@ -4,7 +4,7 @@ use crate::faults::holds;
 use crate::faulty::{Call, FaultyShelf, Planned};
 use crate::seen::{FINE, Seen, run, same, says, wanted};
 use qos_io::{MemShelf, PutFault, WholeSink};
-use qos_pcap::{PcapFault, Stop};
+use qos_main::{PcapFault, Stop};
 use std::process::Abort;
 
 // Two ports, each with a meter of its own. The sections `[red]` are skipped: they begin at lines 5 and 33.

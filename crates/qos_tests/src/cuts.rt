@@ -3,7 +3,7 @@ use crate::build::{PLAIN, Rec, capture, frame};
 use crate::check::{ends_so, holds, shelf_over};
 use crate::profiles::{DRAINS, profile};
 use crate::seen::{EMPTY, End, PortNumbers, wanted};
-use qos_pcap::{PcapFault, Stop};
+use qos_main::{PcapFault, Stop};
 use std::process::Abort;
 use std::sync::Wait;
 use std::thread::Threads;

@@ -4,7 +4,7 @@ use crate::check::{NONE, Row, check, ends_so, holds, shelf_over};
 use crate::profiles::{BUCKET_SIZE, CODE, DRAINS, Edit, QUEUES, SLOW, profile};
 use crate::reports;
 use crate::seen::{EMPTY, End, wanted};
-use qos_pcap::{PcapFault, Stop};
+use qos_main::{PcapFault, Stop};
 
 // A record of 60 bytes with microseconds, big-endian, 1.5 seconds after the origin of the stamps.
 const BIG_MICROSECONDS: [u8; 40] = [

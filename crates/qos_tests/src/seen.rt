@@ -2,8 +2,7 @@
 use crate::build::words_of;
 use qos_base::Colour;
 use qos_io::{OpenGate, Shelf, Sink};
-use qos_main::{Ended, InputEnd, MeterLog, Note, PortEnd, qos_top};
-use qos_pcap::Stop;
+use qos_main::{Ended, InputEnd, MeterLog, Note, PortEnd, Stop, qos_top};
 use std::fmt::Debug;
 use std::process::Abort;
 use std::sync::Wait;

@@ -1,6 +1,6 @@
 //! The text of a run's report, from its numbers.
 use crate::seen::{PortNumbers, Seen};
-use qos_pcap::{PcapFault, Stop};
+use qos_main::{PcapFault, Stop};
 use std::fmt::Write;
 use std::process::Abort;
 
