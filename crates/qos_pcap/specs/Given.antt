@@ -14,7 +14,6 @@ use Rattle.qos_pcap.specs.First.{stamp_at}
 use Rattle.qos_pcap.specs.Format.{Record}
 use Rattle.qos_pcap.specs.Heads.{recorded}
 use Rattle.qos_pcap.specs.Reads.{ReadsFrom}
-use Rattle.qos_pcap.specs.declared.limits.TheConstants.{MAX_CAP}
 
 -- With the body of this head next: the record is whole, and the others follow from offset `at` on; or the body is cut, and it is no record.
 abbrev pub GivesBody : Form → Head → ℕ → ℕ → List ℕ → List Record → Stop → Type 0
@@ -95,7 +94,7 @@ module _ {S : Type 0} {G : Ghosts S} where
     pub count_fits : given new < 2 ^ 32
     pub offset : head.offset ≡ next_offset old
     pub offset_after : next_offset new ≡ next_offset old + 16 + head.cap
-    pub cap_limit : head.cap ≤ MAX_CAP
+    pub cap_limit : head.cap ≤ 262144
     pub cap_within_wire : head.cap ≤ head.wire
 
   -- the body of the last head is behind it, and the next record is in front

@@ -4,12 +4,11 @@ use Rattle.std.specs.List.{flat_map}
 use Rattle.byteorder.specs.Endian.{little_bytes}
 use Rattle.qos_pcap.specs.Format.{Record}
 use Rattle.qos_pcap.specs.Reads.{IsWholeCapture}
-use Rattle.qos_pcap.specs.declared.limits.TheConstants.{MAX_CAP}
 
 -- the header of 24 bytes: magic, version, zone, accuracy, greatest captured length, link type
 abbrev pub header_text : List ℕ
 header_text =
-    little_bytes 4 0xa1b23c4d ++ little_bytes 2 2 ++ little_bytes 2 4 ++ little_bytes 4 0 ++ little_bytes 4 0 ++ little_bytes 4 MAX_CAP ++ little_bytes 4 1
+    little_bytes 4 0xa1b23c4d ++ little_bytes 2 2 ++ little_bytes 2 4 ++ little_bytes 4 0 ++ little_bytes 4 0 ++ little_bytes 4 262144 ++ little_bytes 4 1
 
 -- a record: seconds, nanoseconds, captured length, length on the line, and the captured bytes
 abbrev pub record_text : ℕ → ℕ → List ℕ → List ℕ
@@ -24,7 +23,7 @@ capture_text records =
 -- a record that can be written: it has all its captured bytes, no more than there were on the line, and numbers that fit their fields
 pub record IsWritable (r : Record) : Type 0 where
   pub cap : r.cap ≡ length r.body
-  pub cap_limit : r.cap ≤ MAX_CAP
+  pub cap_limit : r.cap ≤ 262144
   pub cap_within_wire : r.cap ≤ r.wire
   pub wire : r.wire < 2 ^ 32
   pub stamp : r.stamp ≤ 4294967295999999999

@@ -4,9 +4,11 @@ ghost use Rattle.std.specs.Prelude.{◌≤◌, ◌+◌, ◌*◌};
 use crate::fields::head_in;
 use crate::fill::{fill, skip};
 use crate::form::Form;
-use crate::limits::MAX_CAP;
 use crate::{Head, PcapFault, Stop};
 use qos_io::{Failed, Source};
+
+/// The greatest captured length of a record, in bytes.
+const MAX_CAP: u32 = 262_144;
 
 /// Where a capture stands.
 #[derive(Clone, Copy)]
