@@ -1,4 +1,4 @@
-//! The bitmap of active queues.
+//! The bitmap of active queues or pipes.
 ghost use Rattle.std.specs.Prelude.{◌≡◌, ◌+◌, ◌<◌, ◌≤◌, true, false, length, replicate, slice_set, IfOk};
 ghost use Rattle.active_bitmap.specs.NextActive.{next_active};
 
@@ -14,7 +14,7 @@ pub const MAX_BITS: u32 = 65_536;
 /// The most probes that a search makes, where a probe reads one word of 64 bits.
 pub const MAX_PROBES: u32 = 20;
 
-/// One bit a queue, numbered from 0.
+/// A row of bits, numbered from 0: one for each queue or pipe that may hold a packet.
 ///
 /// The bits lie in words of 64, and above them lies a summary with one bit a word, which is set where
 /// that word has a set bit (Programmer's Guide, Quality of Service Framework, the bitmap of active
@@ -53,7 +53,7 @@ impl ActiveBitmap {
         })
     }
 
-    /// Sets a bit: its queue is active.
+    /// Sets a bit: its queue or pipe is active.
     pub fn set(&mut self, bit: u32)
         requires { bit < length self.old }
         ensures { self.new ≡ slice_set self.old bit true }
@@ -63,7 +63,7 @@ impl ActiveBitmap {
         self.summary.set(bit / 64);
     }
 
-    /// Clears a bit: its queue is empty.
+    /// Clears a bit: its queue or pipe is empty.
     pub fn clear(&mut self, bit: u32)
         requires { bit < length self.old }
         ensures { self.new ≡ slice_set self.old bit false }

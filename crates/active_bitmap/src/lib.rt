@@ -1,5 +1,5 @@
-//! Which queues hold a packet: one bit a queue, in two levels of 64-bit words, so that the next
-//! active queue is found in a few probes. It stands on `qos_base` alone, for the answer for want of
+//! Which queues or pipes hold a packet: one bit each, in two levels of 64-bit words, so that the next
+//! active one is found in a few probes. It stands on `qos_base` alone, for the answer for want of
 //! memory and the counter of steps.
 //!
 //! Contracts see a list of truth values. It promises the set bit at the least distance ahead of a

@@ -108,6 +108,12 @@ module _ {T : Type 0} (packet : T → Pkt) (t : T) (s : Port T) where
   abbrev its : Pkt
   its = packet t
 
+  -- its subport is one of the port's
+  pub subport-within : IsTrue (has_place its s) → its.subport < length s.subports
+  subport-within place =
+      let at_place = there s its.subport its.pipe (leb its.wire s.mtu) (ltb its.queue 16) (pipe_of s its.subport its.pipe) refl place in
+      slice_get_within s.subports its.subport at_place.sub at_place.subport_is
+
   arrival-joined : IsPortWithin s → IsTrue (has_place its s) → IsPermutation (left_of (after_arrival packet t s)) (t ∷ left_of s)
   arrival-joined within place =
       let at_place = there s its.subport its.pipe (leb its.wire s.mtu) (ltb its.queue 16) (pipe_of s its.subport its.pipe) refl place in

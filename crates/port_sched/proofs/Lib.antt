@@ -8,7 +8,6 @@ pub mod Served
 pub mod Counted
 pub mod Carried
 pub mod Buckets
-pub mod Ahead
 pub mod PortVisits
 pub mod PortTurns
 pub mod Longest

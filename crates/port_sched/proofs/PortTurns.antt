@@ -1,7 +1,7 @@
 -- A turn of a subport, a visit at a time, and what the stages of a dequeue keep.
-use Rattle.std.proofs.Common.{◌≡◌, ◌≢◌, ◌<◌, ◌≤◌, ◌⊎◌, ℕ, zero, suc, ◌+◌, ◌-◌, ◌*◌, ◌%◌, ◌||◌, max, List, [], ◌++◌, length, take, drop, eqb, leb, cond, refl, sym, ap, ◌∙◌, inl, inr, arith}
+use Rattle.std.proofs.Common.{◌≡◌, ◌≢◌, ◌<◌, ◌≤◌, ◌⊎◌, ℕ, zero, suc, ◌+◌, ◌-◌, ◌*◌, ◌%◌, ◌||◌, max, List, [], ◌∷◌, ◌++◌, length, take, drop, eqb, leb, cond, refl, sym, ap, ◌∙◌, inl, inr, arith}
 use Rattle.std.specs.Prelude.{Option, Some, None, fold}
-use Rattle.std.proofs.lemmas.List.{take_all, take-append-drop, length-drop}
+use Rattle.std.proofs.lemmas.List.{take_all, take-append-drop, length-drop, drop_more}
 use Rattle.std.proofs.lemmas.List.FromFn.{length-map-range_with_len, get_or-map-range_with_len}
 use Rattle.std.proofs.Math.Nat.{mul-le-mul_right}
 use Rattle.std.proofs.lemmas.Bool.{cases_lt}
@@ -13,6 +13,7 @@ use Rattle.port_sched.specs.Pipe.{has_packet}
 use Rattle.port_sched.specs.Subport.{Subport}
 use Rattle.port_sched.specs.Port.{Port}
 use Rattle.port_sched.specs.PortDequeue.{Course, subport_at, visit, visits, active_count, pipe_count, moved_on, turn_of, in_order, dequeue_port}
+use Rattle.port_sched.specs.Visits.{visit_steps, visit_count, turn_visits, turns_visits, dequeue_visits}
 use Rattle.port_sched.specs.Stage.{Stage, GoesTo}
 
 module _ {T : Type 0} (first : ℕ) where
@@ -99,43 +100,65 @@ module _ {T : Type 0} (packet : T → Pkt) where
     visits-over zero misses c over = refl
     visits-over (suc most) misses c over = is_over c.room misses (active_count packet (subport_at packet k c)) _ _ over
 
-    module _ (pipes : ℕ) (start : Course T) where
-      -- what is left of the visits goes on from here, with visits enough
-      pub record HaveVisited (misses : ℕ) (now : Course T) : Type 0 where
+    -- one visit more is counted
+    count-more : (most misses : ℕ) (c : Course T) → 0 < c.room → misses < active_count packet (subport_at packet k c)
+        → visit_count packet (suc most) k misses c ≡ 1 + visit_count packet most k (cond (eqb (visit packet k c).room c.room) (misses + 1) 0)
+        (visit packet k c)
+    unfolding visit_count
+    count-more most misses c some few = goes_on c.room misses (active_count packet (subport_at packet k c)) _ _ some few
+
+    module _ (pipes : ℕ) (start : Course T) (from : ℕ) where
+      -- what is left of the visits goes on from here, with visits enough, and steps enough for those that were made
+      pub record HaveVisited (misses : ℕ) (now : Course T) (steps : ℕ) : Type 0 where
         pub most : ℕ
         pub enough : left_over pipes now.room misses ≤ most
         pub rest : visits packet ((start.room + 1) * (pipes + 1)) k 0 start ≡ visits packet most k misses now
+        pub counted : steps + visit_steps * visit_count packet most k misses now
+            ≤ from + visit_steps * visit_count packet ((start.room + 1) * (pipes + 1)) k 0 start
 
-      pub HaveVisited-start : HaveVisited 0 start
-      HaveVisited-start = record { most = (start.room + 1) * (pipes + 1); enough = omega arith; rest = refl }
+      pub HaveVisited-start : HaveVisited 0 start from
+      HaveVisited-start = record { most = (start.room + 1) * (pipes + 1); enough = omega arith; rest = refl; counted = omega arith }
 
-      by_most : (most misses later : ℕ) (now next : Course T) → left_over pipes now.room misses ≤ most
-          → visits packet ((start.room + 1) * (pipes + 1)) k 0 start ≡ visits packet most k misses now → 0 < now.room
+      by_most : (most misses later steps more : ℕ) (now next : Course T) → left_over pipes now.room misses ≤ most
+          → visits packet ((start.room + 1) * (pipes + 1)) k 0 start ≡ visits packet most k misses now
+          → steps + visit_steps * visit_count packet most k misses now
+          ≤ from + visit_steps * visit_count packet ((start.room + 1) * (pipes + 1)) k 0 start
+          → more ≤ steps + visit_steps → 0 < now.room
           → misses < active_count packet (subport_at packet k now) → next ≡ visit packet k now
           → later ≡ cond (eqb next.room now.room) (misses + 1) 0 → left_over pipes next.room later < left_over pipes now.room misses
-          → HaveVisited later next
-      by_most zero misses later now next enough rest some few is counts falls = absurd (omega arith)
-      by_most (suc most) misses later now next enough rest some few is counts falls = record {
-        most = most;
-        enough = omega arith;
-        rest = rest ∙ visits-more most misses now some few
-            ∙ ap (λ (c : Course T). visits packet most k (cond (eqb c.room now.room) (misses + 1) 0) c) (sym is)
-            ∙ ap (λ n. visits packet most k n next) (sym counts);
-      }
+          → HaveVisited later next more
+      by_most zero misses later steps more now next enough rest counted taken some few is counts falls = absurd (omega arith)
+      by_most (suc most) misses later steps more now next enough rest counted taken some few is counts falls =
+          let here : visit_count packet (suc most) k misses now ≡ 1 + visit_count packet most k later next =
+          count-more most misses now some few
+          ∙ ap (λ (c : Course T). 1 + visit_count packet most k (cond (eqb c.room now.room) (misses + 1) 0) c) (sym is)
+          ∙ ap (λ n. 1 + visit_count packet most k n next) (sym counts) in
+          record {
+            most = most;
+            enough = omega arith;
+            rest = rest ∙ visits-more most misses now some few
+                ∙ ap (λ (c : Course T). visits packet most k (cond (eqb c.room now.room) (misses + 1) 0) c) (sym is)
+                ∙ ap (λ n. visits packet most k n next) (sym counts);
+            counted = omega (arith, here, counted, taken);
+          }
 
-      pub HaveVisited-more : (misses later : ℕ) (now next : Course T) → HaveVisited misses now → 0 < now.room
-          → misses < active_count packet (subport_at packet k now) → active_count packet (subport_at packet k now) ≤ pipes
+      pub HaveVisited-more : (misses later steps more : ℕ) (now next : Course T) → HaveVisited misses now steps → more ≤ steps + visit_steps
+          → 0 < now.room → misses < active_count packet (subport_at packet k now) → active_count packet (subport_at packet k now) ≤ pipes
           → next.room ≤ now.room → next ≡ visit packet k now → later ≡ cond (eqb next.room now.room) (misses + 1) 0
-          → HaveVisited later next
-      HaveVisited-more misses later now next so_far some few most within is counts =
-          by_most so_far.most misses later now next so_far.enough so_far.rest some few is counts
+          → HaveVisited later next more
+      HaveVisited-more misses later steps more now next so_far taken some few most within is counts =
+          by_most so_far.most misses later steps more now next so_far.enough so_far.rest so_far.counted taken some few is counts
           (left_over-falls pipes (active_count packet (subport_at packet k now)) now.room next.room misses later some few most within
           counts)
 
-      pub HaveVisited-over : (misses : ℕ) (now : Course T) → HaveVisited misses now
+      pub HaveVisited-over : (misses : ℕ) (now : Course T) (steps : ℕ) → HaveVisited misses now steps
           → (now.room ≡ 0) ⊎ (active_count packet (subport_at packet k now) ≤ misses)
           → now ≡ visits packet ((start.room + 1) * (pipes + 1)) k 0 start
-      HaveVisited-over misses now so_far over = sym (so_far.rest ∙ visits-over so_far.most misses now over)
+      HaveVisited-over misses now steps so_far over = sym (so_far.rest ∙ visits-over so_far.most misses now over)
+
+      pub HaveVisited-steps : (misses : ℕ) (now : Course T) (steps : ℕ) → HaveVisited misses now steps
+          → steps ≤ from + visit_steps * visit_count packet ((start.room + 1) * (pipes + 1)) k 0 start
+      HaveVisited-steps misses now steps so_far = omega (arith, so_far.counted)
 
 module _ {T : Type 0} (packet : T → Pkt) (k : ℕ) (c : Course T) where
   -- there is no turn where no room is left
@@ -153,18 +176,29 @@ module _ {T : Type 0} (packet : T → Pkt) (k : ℕ) (c : Course T) where
       → later ≡ turn_of packet c k
   turn-kept later some is left = sym (some_room later.room _ _ left) ∙ ap (moved_on packet k) is ∙ sym (some_room c.room _ _ some)
 
-module _ {T : Type 0} (packet : T → Pkt) (start : Course T) where
-  -- the first so many subports of a dequeue have had their turn
-  pub record HaveTurned (turns : ℕ) (now : Course T) : Type 0 where
+  -- the visits of a turn, where there is one
+  pub turn-counted : c.room ≢ 0
+      → turn_visits packet k c ≡ visit_count packet ((c.room + 1) * (pipe_count packet (subport_at packet k c) + 1)) k 0 c
+  turn-counted some = some_room c.room _ _ some
+
+module _ {T : Type 0} (packet : T → Pkt) (start : Course T) (from : ℕ) where
+  -- the first so many subports of a dequeue have had their turn, with steps enough for their visits
+  pub record HaveTurned (turns : ℕ) (now : Course T) (steps : ℕ) : Type 0 where
     pub so_far : now ≡ fold (turn_of packet) start (take turns (in_order packet start.port))
+    pub counted : steps + visit_steps * turns_visits packet (drop turns (in_order packet start.port)) now
+        ≤ from + visit_steps * turns_visits packet (in_order packet start.port) start
 
   length-in_order : length (in_order packet start.port) ≡ length start.port.subports
   length-in_order = length-map-range_with_len (λ ahead. (start.port.cursor + ahead) % length start.port.subports) 0
       (length start.port.subports)
 
-  pub HaveTurned-more : (turns k : ℕ) (now next : Course T) → HaveTurned turns now → turns < length start.port.subports
-      → k ≡ (start.port.cursor + turns) % length start.port.subports → next ≡ turn_of packet now k → HaveTurned (turns + 1) next
-  HaveTurned-more turns k now next so_far within at is =
+  pub HaveTurned-start : HaveTurned 0 start from
+  HaveTurned-start = record { so_far = refl; counted = omega arith }
+
+  pub HaveTurned-more : (turns k steps more : ℕ) (now next : Course T) → HaveTurned turns now steps
+      → more ≤ steps + visit_steps * turn_visits packet k now → turns < length start.port.subports
+      → k ≡ (start.port.cursor + turns) % length start.port.subports → next ≡ turn_of packet now k → HaveTurned (turns + 1) next more
+  HaveTurned-more turns k steps more now next so_far taken within at is =
       let place =
       get_or-map-range_with_len (λ ahead. (start.port.cursor + ahead) % length start.port.subports) 0 (length start.port.subports)
       turns turns 0 within (omega arith) in
@@ -172,12 +206,25 @@ module _ {T : Type 0} (packet : T → Pkt) (start : Course T) where
         so_far = is ∙ ap (λ c. turn_of packet c k) so_far.so_far
             ∙ ap (turn_of packet (fold (turn_of packet) start (take turns (in_order packet start.port)))) (at ∙ sym place)
             ∙ sym (fold_more (turn_of packet) start (in_order packet start.port) turns 0 (omega (arith, length-in_order)));
+        counted =
+            let left : drop turns (in_order packet start.port) ≡ k ∷ drop (turns + 1) (in_order packet start.port) =
+            drop_more (in_order packet start.port) turns 0 (omega (arith, length-in_order))
+            ∙ ap (λ n. n ∷ drop (turns + 1) (in_order packet start.port)) (place ∙ sym at) in
+            let here : turns_visits packet (drop turns (in_order packet start.port)) now
+            ≡ turn_visits packet k now + turns_visits packet (drop (turns + 1) (in_order packet start.port)) next =
+            ap (λ ks. turns_visits packet ks now) left
+            ∙ ap (λ c. turn_visits packet k now + turns_visits packet (drop (turns + 1) (in_order packet start.port)) c) (sym is) in
+            omega (arith, here, so_far.counted, taken);
       }
 
-  pub HaveTurned-all : (turns : ℕ) (now : Course T) → HaveTurned turns now → length start.port.subports ≤ turns
+  pub HaveTurned-all : (turns : ℕ) (now : Course T) (steps : ℕ) → HaveTurned turns now steps → length start.port.subports ≤ turns
       → now ≡ fold (turn_of packet) start (in_order packet start.port)
-  HaveTurned-all turns now so_far all = so_far.so_far
+  HaveTurned-all turns now steps so_far all = so_far.so_far
       ∙ ap (fold (turn_of packet) start) (take_all turns (in_order packet start.port) (omega (arith, length-in_order)))
+
+  pub HaveTurned-steps : (turns : ℕ) (now : Course T) (steps : ℕ) → HaveTurned turns now steps
+      → steps ≤ from + visit_steps * turns_visits packet (in_order packet start.port) start
+  HaveTurned-steps turns now steps so_far = omega (arith, so_far.counted)
 
 -- the dequeue, from where it starts
 pub dequeue_port-is : {T : Type 0} (packet : T → Pkt) (now room : ℕ) (port moved : Port T) (sends : List (Departure T))
@@ -189,6 +236,15 @@ dequeue_port-is {T} packet now room port moved sends is none =
     let from : Port T → List (Departure T) → Course T = λ p ds. record { port = p; room = room; sends = ds } in
     ap (λ p. fold (turn_of packet) (from p []) (in_order packet p)) (sym is)
     ∙ ap (λ ds. fold (turn_of packet) (from moved ds) (in_order packet moved)) (sym none)
+
+pub dequeue_visits-is : {T : Type 0} (packet : T → Pkt) (now room : ℕ) (port moved : Port T) (sends : List (Departure T))
+    → moved ≡ record port { time = max port.time now } → sends ≡ []
+    → dequeue_visits packet now room port ≡ turns_visits packet (in_order packet moved) (record { port = moved; room = room; sends = sends })
+unfolding dequeue_visits
+dequeue_visits-is {T} packet now room port moved sends is none =
+    let from : Port T → List (Departure T) → Course T = λ p ds. record { port = p; room = room; sends = ds } in
+    ap (λ p. turns_visits packet (in_order packet p) (from p [])) (sym is)
+    ∙ ap (λ ds. turns_visits packet (in_order packet moved) (from moved ds)) (sym none)
 
 -- what `out` holds at the end, and how many packets that is
 pub sends-after : {T : Type 0} (held out sends : List (Departure T)) (first : ℕ) → first ≡ length held → take first out ≡ take first held

@@ -1,16 +1,20 @@
 -- What the parts of a port that were made so far stand for.
-use Rattle.std.proofs.Common.{◌≡◌, ℕ, ◌+◌, ◌<◌, ◌≤◌, List, [], ◌∷◌, ◌++◌, length, map, take, get_or, Option, Some, refl, sym, ap, subst, ◌∙◌, arith}
-use Rattle.std.specs.Prelude.{All}
+use Rattle.std.proofs.Common.{◌≡◌, ℕ, false, ◌+◌, ◌<◌, ◌≤◌, List, [], ◌∷◌, ◌++◌, length, map, take, get_or, Option, Some, refl, sym, ap, subst, ◌∙◌, arith}
+use Rattle.std.specs.Prelude.{All, replicate}
 use Rattle.std.specs.List.{filter_map}
 use Rattle.std.proofs.lemmas.List.{take_more, map_push, length-map}
 use Rattle.std.proofs.lemmas.List.Elements.{filter_map-append, All-map, All-push}
 use Rattle.qos_base.specs.declared.packet.Pkt.{Pkt}
-use Rattle.queue_store.specs.Queues.{Queues, empty_queues}
+use Rattle.queue_store.specs.Queues.{Queues, empty_queues, has_packet as some_filled}
 use Rattle.port_sched.specs.declared.serving.TheConstants.{MAX_WIRE}
 use Rattle.profile_plan.specs.declared.shaping.PipeKind.{PipeKind}
 use Rattle.profile_plan.specs.declared.shaping.Whole.{Whole}
 use Rattle.profile_plan.specs.Profile.{pipe_kind_of}
 use Rattle.profile_plan.specs.Whole.{whole_of}
+use Rattle.port_sched.specs.declared.pipe.PipeBooks.{PipeBooks}
+use Rattle.port_sched.specs.Pipe.{has_packet, queue_sizes, pipe_start}
+use Rattle.port_sched.specs.Books.{pipe_up_to}
+use Rattle.port_sched.proofs.Places.{its_bit, knows-active}
 use Rattle.port_sched.specs.Shares.{share_of, shares_of}
 
 module _ {X Y : Type 0} (f : X → Option Y) where
@@ -69,3 +73,19 @@ module _ (kinds : List PipeKind) (line : ℕ) (plan : Whole) (numbers : List ℕ
   shares_first-more i d kind inside is =
       ap (map (share_of plan)) (map-filter_map-more (pipe_kind_of kinds) (λ k. whole_of k.shaping line) numbers i d kind inside is)
       ∙ map_push (share_of plan) (map (λ k. whole_of k.shaping line) (filter_map (pipe_kind_of kinds) (take i numbers))) (whole_of kind.shaping line)
+
+module _ (T : Type 0) where
+  none-filled : (sizes : List ℕ) → some_filled (empty_queues {T = T} sizes) ≡ false
+  none-filled [] = refl
+  none-filled (n ∷ sizes) = none-filled sizes
+
+  -- no pipe has a packet at the start
+  none-active : (line : ℕ) (sizes : List ℕ) (kinds : List PipeKind) → map has_packet (map (pipe_start {T = T} line sizes) kinds) ≡ replicate (length kinds) false
+  none-active line sizes [] = refl
+  none-active line sizes (kind ∷ kinds) = λ i. none-filled (queue_sizes sizes) i ∷ none-active line sizes kinds i
+
+pub knows-start : {T : Type 0} (line : ℕ) (sizes : List ℕ) (kinds : List PipeKind) (pipes : List (PipeBooks T)) → map (pipe_up_to 0) pipes ≡ map (pipe_start line sizes) kinds
+    → replicate (length pipes) false ≡ map its_bit pipes
+knows-start {T} line sizes kinds pipes start =
+    let count : length pipes ≡ length kinds = sym (length-map pipes (pipe_up_to 0)) ∙ ap length start ∙ length-map kinds (pipe_start line sizes) in
+    ap (λ n. replicate n false) count ∙ sym (none-active T line sizes kinds) ∙ ap (map has_packet) (sym start) ∙ knows-active 0 pipes

@@ -1,5 +1,6 @@
 -- A visit of a pipe: where it begins and ends, and what stays sound.
 use Rattle.std.proofs.Common.{◌≡◌, ◌<◌, ◌≤◌, ℕ, ◌*◌, ◌/◌, List, [], Some, length, map, drop, get_or, length-set, refl, sym, ap, ◌∙◌, subst, arith}
+use Rattle.std.proofs.Math.Nat.{mul-div-le}
 use Rattle.std.specs.Prelude.{slice_get, slice_set, option_map, All}
 use Rattle.std.proofs.lemmas.Option.{slice_get-map, slice_get_read}
 use Rattle.qos_base.specs.declared.packet.Pkt.{Pkt}
@@ -13,7 +14,7 @@ use Rattle.port_sched.specs.Subport.{Subport}
 use Rattle.port_sched.specs.Renewal.{subport_renewed}
 use Rattle.port_sched.specs.Classes.{Visit, classes_turn}
 use Rattle.port_sched.specs.Visit.{Service, cursor_after, visit_start, visit_end, visit_pipe}
-use Rattle.port_sched.specs.Books.{pipe_of, IsBrought, IsPipeBooks}
+use Rattle.port_sched.specs.Books.{pipe_up_to, IsLevelBooks, IsBrought, IsPipeBooks}
 use Rattle.port_sched.specs.Standing.{IsSameLevel, AreQueues}
 
 module _ {T : Type 0} where
@@ -49,10 +50,18 @@ module _ (ticked : ℕ) (from to : LevelBooks) where
         brought = ap (λ b. b.time) same ∙ was.brought ∙ ap (λ n. n * (ticked / n)) (sym period);
       }
 
+-- what is brought up to a moment is not ahead of it
+pub IsLevelBooks-brought : (moment : ℕ) (l : LevelBooks) → IsBrought moment l → IsLevelBooks moment l
+IsLevelBooks-brought moment l sound = record {
+  some_period = sound.some_period;
+  not_ahead = omega (arith, sound.brought, mul-div-le moment l.bucket.period);
+}
+
 module _ {T : Type 0} (pipes : List (PipeBooks T)) (q : ℕ) (p : PipeBooks T) (here : p ≡ get_or pipes q p) (within : q < length pipes) where
   -- the pipe of this number, as the definitions see it
-  pub pipe-there : slice_get (map pipe_of pipes) q ≡ Some (pipe_of p)
-  pipe-there = slice_get-map pipe_of pipes q ∙ ap (option_map pipe_of) (slice_get_read pipes (length pipes) q p refl within here)
+  pub pipe-there : (moment : ℕ) → slice_get (map (pipe_up_to moment) pipes) q ≡ Some (pipe_up_to moment p)
+  pipe-there moment =
+      slice_get-map (pipe_up_to moment) pipes q ∙ ap (option_map (pipe_up_to moment)) (slice_get_read pipes (length pipes) q p refl within here)
 
   pub pipe-sound : (packet : T → Pkt) (ticked : ℕ) → All (IsPipeBooks packet ticked) pipes → IsPipeBooks packet ticked p
   pipe-sound packet ticked all = subst (IsPipeBooks packet ticked) (sym here) (all q p within)
@@ -74,9 +83,9 @@ module _ {T : Type 0} (packet : T → Pkt) where
   queues-kept ticked p queues same sound = subst (AreQueues packet) (sym same) (record { lists = sound.lists; sizes = sound.sizes; short = sound.short })
 
   -- the pipe is visited: it is renewed, and then its classes send
-  pub pipe-visited : (ticked : ℕ) (from renewed to : PipeBooks T) → IsPipeBooks packet ticked from → renewed.level.bucket ≡ from.level.bucket → IsSameLevel renewed.level to.level → AreQueues packet to.queues → IsPipeBooks packet ticked to
-  pipe-visited ticked from renewed to was bucket same queues = record {
-    level = IsBrought-same ticked renewed.level to.level same (IsBrought-bucket ticked from.level renewed.level bucket was.level);
+  pub pipe-visited : (ticked : ℕ) (to : PipeBooks T) → IsBrought ticked to.level → AreQueues packet to.queues → IsPipeBooks packet ticked to
+  pipe-visited ticked to brought queues = record {
+    level = IsLevelBooks-brought ticked to.level brought;
     lists = queues.lists;
     sizes = queues.sizes;
     short = queues.short;

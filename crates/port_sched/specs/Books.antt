@@ -7,8 +7,8 @@ use Rattle.port_sched.specs.declared.pipe.PipeBooks.{PipeBooks}
 use Rattle.port_sched.specs.declared.subport.SubportBooks.{SubportBooks}
 use Rattle.port_sched.specs.declared.serving.Serving.{Serving}
 use Rattle.port_sched.specs.declared.serving.TheConstants.{MAX_WIRE}
-use Rattle.port_sched.specs.Level.{Level}
-use Rattle.port_sched.specs.Pipe.{Pipe}
+use Rattle.port_sched.specs.Level.{Level, level_tick}
+use Rattle.port_sched.specs.Pipe.{Pipe, has_packet}
 use Rattle.port_sched.specs.Subport.{Subport}
 use Rattle.port_sched.specs.Classes.{Visit}
 use Rattle.port_sched.specs.Visit.{Service}
@@ -27,10 +27,19 @@ level_of l = record {
   due = l.classes.due;
 }
 
--- the bucket is brought up to this moment, in whole periods
-pub record IsBrought (ticked : ℕ) (l : LevelBooks) : Type 0 where
+-- A bucket is brought up to date when it is used. At a moment it stands for one that was stepped all the time.
+abbrev pub level_up_to : ℕ → LevelBooks → Level
+level_up_to moment l = level_tick l.bucket.time moment (level_of l)
+
+-- its bucket may still be brought up to this moment
+pub record IsLevelBooks (moment : ℕ) (l : LevelBooks) : Type 0 where
   pub some_period : 1 ≤ l.bucket.period
-  pub brought : l.bucket.time ≡ l.bucket.period * (ticked / l.bucket.period)
+  pub not_ahead : l.bucket.time ≤ moment
+
+-- its bucket is brought up to this moment, in whole periods
+pub record IsBrought (moment : ℕ) (l : LevelBooks) : Type 0 where
+  pub some_period : 1 ≤ l.bucket.period
+  pub brought : l.bucket.time ≡ l.bucket.period * (moment / l.bucket.period)
 
 module _ {T : Type 0} where
   abbrev pub pipe_of : PipeBooks T → Pipe T
@@ -43,15 +52,18 @@ module _ {T : Type 0} where
     queues = p.queues;
   }
 
-  abbrev pub subport_of : SubportBooks T → Subport T
-  subport_of s = record {
-    level = level_of s.level;
+  abbrev pub pipe_up_to : ℕ → PipeBooks T → Pipe T
+  pipe_up_to moment p = record (pipe_of p) { level = level_up_to moment p.level }
+
+  abbrev pub subport_up_to : ℕ → SubportBooks T → Subport T
+  subport_up_to moment s = record {
+    level = level_up_to moment s.level;
     oversub = s.oversub;
     oversubscribed = s.oversubscribed;
     watermark = s.watermark;
     period = s.period;
     cursor = s.cursor;
-    pipes = map pipe_of s.pipes.items;
+    pipes = map (pipe_up_to moment) s.pipes.items;
   }
 
   -- the sends of this dequeue are those of `out` from `first` on
@@ -65,20 +77,25 @@ module _ {T : Type 0} where
     sends = drop v.first out;
   }
 
-  abbrev pub service_of : Serving → SubportBooks T → List (Departure T) → Service T
-  service_of v s out = record { subport = subport_of s; time = v.time; room = v.room; sends = drop v.first out }
+  abbrev pub service_up_to : ℕ → Serving → SubportBooks T → List (Departure T) → Service T
+  service_up_to moment v s out = record { subport = subport_up_to moment s; time = v.time; room = v.room; sends = drop v.first out }
+
+  -- the bits of the pipes with a packet
+  abbrev pub KnowsActive : SubportBooks T → Type 0
+  KnowsActive s = s.active ≡ map (λ p. has_packet (pipe_of p)) s.pipes.items
 
   module _ (packet : T → Pkt) where
     pub record IsPipeBooks (ticked : ℕ) (p : PipeBooks T) : Type 0 where
-      pub level : IsBrought ticked p.level
+      pub level : IsLevelBooks ticked p.level
       pub lists : length p.queues.lists ≡ 16
       pub sizes : length p.queues.sizes ≡ 16
       pub short : All (λ ts. All (λ t. (packet t).wire ≤ MAX_WIRE) ts) p.queues.lists
 
     pub record IsSubportBooks (ticked : ℕ) (s : SubportBooks T) : Type 0 where
-      pub level : IsBrought ticked s.level
+      pub level : IsLevelBooks ticked s.level
       pub cursor : s.cursor < length s.pipes.items
       pub few : length s.pipes.items ≤ 4096
       -- each renewal puts the next one off by at least 1
       pub periods : s.period < s.level.classes.due
       pub pipes : All (IsPipeBooks ticked) s.pipes.items
+      pub active : KnowsActive s

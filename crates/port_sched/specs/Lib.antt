@@ -10,6 +10,7 @@ pub mod Renewal
 pub mod Classes
 pub mod Visit
 pub mod PortDequeue
+pub mod Visits
 pub mod Brought
 pub mod Stage
 pub mod Books

@@ -1,7 +1,7 @@
 //! What an arrival does.
 ghost use Rattle.std.specs.Prelude.{◌≡◌, ◌≤◌, ◌<◌, ◌↔◌, ℕ, length, slice_get, All, IsTrue, OnOk, IfErr, IsErr};
 ghost use Rattle.port_sched.specs.Port.{has_place, is_full, is_full_at, with_arrival, in_subport, after_arrival};
-ghost use Rattle.port_sched.specs.Books.{pipe_of, subport_of, IsPipeBooks, IsSubportBooks};
+ghost use Rattle.port_sched.specs.Books.{pipe_of, subport_up_to, KnowsActive, IsPipeBooks, IsSubportBooks};
 
 use crate::pipe::{PIPE_QUEUES, PipeBooks};
 use crate::port::PortSched;
@@ -46,13 +46,18 @@ impl<T: Parcel> SubportBooks<T> {
         requires queue { queue < 16 }
         requires wire { (T.packet t).wire ≤ MAX_WIRE }
         requires queues { All (λ p. length p.queues.lists ≡ 16) self.old.pipes.items }
-        ensures full { IsErr result ↔ IsTrue (is_full_at queue (slice_get (subport_of self.old).pipes pipe)) }
-        ensures joined { OnOk result (subport_of self.new ≡ in_subport pipe (with_arrival queue t) (subport_of self.old)) }
-        ensures refused { IfErr result (λ e. (e.parcel ≡ t) × (subport_of self.new ≡ subport_of self.old)) }
+        requires active { KnowsActive self.old }
+        ensures full { (moment : ℕ) → IsErr result ↔ IsTrue (is_full_at queue (slice_get (subport_up_to moment self.old).pipes pipe)) }
+        ensures joined { OnOk result ((moment : ℕ) → subport_up_to moment self.new ≡ in_subport pipe (with_arrival queue t) (subport_up_to moment self.old)) }
+        ensures refused { IfErr result (λ e. (e.parcel ≡ t) × ((moment : ℕ) → subport_up_to moment self.new ≡ subport_up_to moment self.old)) }
         ensures sound { (ticked : ℕ) → IsSubportBooks T.packet ticked self.old → IsSubportBooks T.packet ticked self.new }
     {
         let books = &mut self.pipes[pipe as usize];
-        books.arrive(queue, t)
+        let had = books.has_packet();
+        let arrived = books.arrive(queue, t);
+        let has = books.has_packet();
+        self.active.change(pipe as usize, had, has);
+        arrived
     }
 }
 
@@ -63,6 +68,7 @@ impl<T: Parcel> PipeBooks<T> {
         ensures full { IsErr result ↔ IsTrue (is_full_at queue (Some (pipe_of self.old))) }
         ensures joined { OnOk result (pipe_of self.new ≡ with_arrival queue t (pipe_of self.old)) }
         ensures refused { IfErr result (λ e. (e.parcel ≡ t) × (pipe_of self.new ≡ pipe_of self.old)) }
+        ensures level { self.new.level ≡ self.old.level }
         ensures sound { (ticked : ℕ) → IsPipeBooks T.packet ticked self.old → IsPipeBooks T.packet ticked self.new }
     {
         self.queues.put(queue, t)

@@ -3,7 +3,8 @@ ghost use Rattle.std.specs.Prelude.{◌≡◌, ◌+◌, ◌≤◌, ◌<◌, ◌^
 ghost use Rattle.profile_plan.specs.Limits.{IsWhole};
 ghost use Rattle.port_sched.specs.Level.{level_start, level_tick, level_renewed, level_paid, allowance, used, is_due};
 ghost use Rattle.port_sched.specs.Renewal.{used_above};
-ghost use Rattle.port_sched.specs.Books.{level_of, IsBrought};
+ghost use Rattle.port_sched.specs.Books.{level_of, level_up_to, IsLevelBooks};
+ghost use Rattle.port_sched.specs.Brought.{level_brought};
 
 use credit_book::{Bucket, ClassCredits};
 use profile_plan::Whole;
@@ -23,13 +24,23 @@ pub(crate) struct LevelBooks {
 impl LevelBooks {
     pub(crate) fn new(plan: &Whole) -> LevelBooks
         requires { IsWhole plan.now }
-        ensures start { level_of result ≡ level_start plan.now }
-        ensures brought { IsBrought 0 result }
+        ensures start { level_up_to 0 result ≡ level_start plan.now }
+        ensures sound { IsLevelBooks 0 result }
     {
         LevelBooks {
             bucket: Bucket::new(plan.tb_size, plan.tb_credits, plan.tb_period),
             classes: ClassCredits::new(plan.tc_credits, plan.tc_period),
         }
+    }
+
+    // Brings the bucket up to a moment.
+    pub(crate) fn bring<L: Ledger>(&mut self, time: u64, steps: &mut Steps<L>)
+        requires not_ahead { self.old.bucket.time ≤ time }
+        requires time { time ≤ 2 ^ 63 }
+        ensures exact { self.new ≡ level_brought time self.old }
+        ensures step { steps.new ≡ steps.old + 1 }
+    {
+        self.bucket.bring(time, steps);
     }
 
     // Whether the class credits are to be renewed at a moment.
@@ -46,6 +57,7 @@ impl LevelBooks {
         ensures exact { level_of self.new ≡ level_renewed time (level_of self.old) }
         ensures ahead { time < self.new.classes.due }
         ensures bucket { self.new.bucket ≡ self.old.bucket }
+        ensures step { steps.new ≡ steps.old + 1 }
     {
         self.classes.bring(time, steps)
     }

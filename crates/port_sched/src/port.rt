@@ -4,6 +4,7 @@ ghost use Rattle.std.specs.Prelude.{◌≡◌, ◌≤◌, ◌<◌, ◌+◌, ◌*
 use crate::round::around;
 use crate::serving::Serving;
 use crate::subport::SubportBooks;
+use credit_book::laws::{multiples_add_up, periods_add_up};
 use qos_base::{Departure, Parcel, Steps};
 use std::marker::Model;
 use std::sync::ledger::Ledger;
@@ -16,7 +17,7 @@ pub struct PortSched<T: Parcel> {
     pub(crate) overhead: u32,
     pub(crate) mtu: u32,
     pub(crate) time: u64,
-    // the moment up to which every bucket is brought
+    // the moment up to which every bucket counts as stepped
     pub(crate) ticked: u64,
     pub(crate) cursor: usize,
     pub(crate) subports: Vec<SubportBooks<T>>,
@@ -25,12 +26,12 @@ pub struct PortSched<T: Parcel> {
 impl<T: Parcel> Model for PortSched<T> {
     ghost use Rattle.std.specs.Prelude.{map};
     ghost use Rattle.port_sched.specs.Port.{Port};
-    ghost use Rattle.port_sched.specs.Books.{subport_of};
+    ghost use Rattle.port_sched.specs.Books.{subport_up_to};
     ghost use Rattle.port_sched.specs.Sound.{IsPortSched};
 
     ghost Value = { Port T };
 
-    ghost view = { λ s. record { overhead = s.overhead; mtu = s.mtu; time = s.time; ticked = s.ticked; cursor = s.cursor; subports = map subport_of s.subports.items } };
+    ghost view = { λ s. record { overhead = s.overhead; mtu = s.mtu; time = s.time; ticked = s.ticked; cursor = s.cursor; subports = map (subport_up_to s.ticked) s.subports.items } };
 
     ghost invariant = { λ s. IsPortSched T.packet s.overhead s.mtu s.time s.ticked s.cursor s.subports.items };
 }
@@ -38,6 +39,7 @@ impl<T: Parcel> Model for PortSched<T> {
 impl<T: Parcel> PortSched<T> {
     ghost use Rattle.port_sched.specs.Port.{Port, tick};
     ghost use Rattle.port_sched.specs.PortDequeue.{visit, visits, turn_of, active_count, pipe_count, dequeue_port};
+    ghost use Rattle.port_sched.specs.Visits.{visit_steps, visit_count, turn_visits, dequeue_visits};
     ghost use Rattle.port_sched.specs.Stage.{max_cost, stage, course_of, IsReady, GoesTo};
 
     /// Port time, in byte times of the line.
@@ -51,7 +53,8 @@ impl<T: Parcel> PortSched<T> {
     /// added to `out`; the answer is how many packets.
     ///
     /// `now` and [`PortSched::time`] are in byte times, at most 2^62. `room` is at most 256, and `out` has room reserved for
-    /// that many. No memory is taken. `steps` counts bucket updates and class renewals.
+    /// that many. No memory is taken. `steps` counts bucket updates, class renewals and words of the
+    /// bitmap that are read, at most 24 for each visit of a pipe.
     pub fn dequeue<L: Ledger>(
         &mut self,
         now: u64,
@@ -67,6 +70,7 @@ impl<T: Parcel> PortSched<T> {
         ensures sends { out.new.items ≡ out.old.items ++ (dequeue_port T.packet now room self.old).sends }
         ensures count { result ≡ length (dequeue_port T.packet now room self.old).sends }
         ensures capacity { vec_capacity out.new ≡ vec_capacity out.old }
+        ensures steps { steps.new ≤ steps.old + visit_steps * dequeue_visits T.packet now room self.old }
     {
         self.move_to(now);
         let first = out.len();
@@ -98,6 +102,7 @@ impl<T: Parcel> PortSched<T> {
         requires time { self.old.time + max_cost * room ≤ 2 ^ 62 + 2 ^ 28 }
         ensures exact { course_of first (stage self.new result out.new) ≡ turn_of T.packet (course_of first (stage self.old room out.old)) subport }
         ensures goes { GoesTo first (stage self.old room out.old) (stage self.new result out.new) }
+        ensures steps { steps.new ≤ steps.old + visit_steps * turn_visits T.packet subport (course_of first (stage self.old room out.old)) }
     {
         if room == 0 {
             return 0;
@@ -123,6 +128,8 @@ impl<T: Parcel> PortSched<T> {
         ensures exact { let most = (room + 1) * (pipe_count T.packet (slice_get self.old.subports subport) + 1) in
             course_of first (stage self.new result out.new) ≡ visits T.packet most subport 0 (course_of first (stage self.old room out.old)) }
         ensures goes { GoesTo first (stage self.old room out.old) (stage self.new result out.new) }
+        ensures steps { let most = (room + 1) * (pipe_count T.packet (slice_get self.old.subports subport) + 1) in
+            steps.new ≤ steps.old + visit_steps * visit_count T.packet most subport 0 (course_of first (stage self.old room out.old)) }
     {
         let mut left = room;
         let mut misses = 0;
@@ -151,7 +158,7 @@ impl<T: Parcel> PortSched<T> {
         self.subports[subport].active()
     }
 
-    // Brings every bucket up to port time, and visits the next pipe of a subport; the room that is left then.
+    // Visits the next pipe of a subport at port time; the room that is left then.
     fn visit<L: Ledger>(
         &mut self,
         subport: usize,
@@ -165,10 +172,11 @@ impl<T: Parcel> PortSched<T> {
         ensures exact { course_of first (stage self.new result out.new) ≡ visit T.packet subport (course_of first (stage self.old room out.old)) }
         ensures goes { GoesTo first (stage self.old room out.old) (stage self.new result out.new) }
         ensures pipes { pipe_count T.packet (slice_get self.new.subports subport) ≡ pipe_count T.packet (slice_get self.old.subports subport) }
+        ensures steps { steps.new ≤ steps.old + visit_steps }
     {
-        self.tick(steps);
+        self.tick();
         let visited = &mut self.subports[subport];
-        let Some(pipe) = visited.next_pipe() else {
+        let Some(pipe) = visited.next_pipe(steps) else {
             return room;
         };
         let mut serving = Serving {
@@ -183,14 +191,12 @@ impl<T: Parcel> PortSched<T> {
         serving.room
     }
 
-    // Every bucket is brought up to port time.
-    fn tick<L: Ledger>(&mut self, steps: &mut Steps<L>)
-        requires { self.old.time ≤ 2 ^ 63 }
+    // Every bucket stands for what it is at port time. It is brought up to it when it is used.
+    fn tick(&mut self)
         ensures { self.new ≡ tick self.old.time self.old }
     {
-        for subport in self.subports.iter_mut() {
-            subport.bring(self.time, steps);
-        }
+        periods_add_up();
+        multiples_add_up();
         self.ticked = self.time;
     }
 }

@@ -5,8 +5,9 @@ ghost use Rattle.profile_plan.specs.Limits.{IsPipeKind};
 ghost use Rattle.profile_plan.specs.Profile.{IsPort, IsSubport};
 ghost use Rattle.port_sched.specs.Pipe.{pipe_start, queue_sizes};
 ghost use Rattle.port_sched.specs.Start.{kinds_of, subport_start, port_start};
-ghost use Rattle.port_sched.specs.Books.{pipe_of, subport_of, IsPipeBooks, IsSubportBooks};
+ghost use Rattle.port_sched.specs.Books.{pipe_up_to, subport_up_to, IsPipeBooks, IsSubportBooks};
 
+use crate::active::ActivePipes;
 use crate::level::{BEST_EFFORT, LevelBooks};
 use crate::pipe::PipeBooks;
 use crate::port::PortSched;
@@ -46,7 +47,7 @@ fn subports_at<T: Parcel>(
     port: &PortPlan,
 ) -> Result<Vec<SubportBooks<T>>, NoMemory>
     requires { IsPort p.now.subport_kinds p.now.pipe_kinds port.now }
-    ensures start { IfOk result (λ v. map subport_of v.items ≡ filter_map (subport_start p.now port.now) port.now.subports) }
+    ensures start { IfOk result (λ v. map (subport_up_to 0) v.items ≡ filter_map (subport_start p.now port.now) port.now.subports) }
     ensures sound { IfOk result (λ v. All (IsSubportBooks T.packet 0) v.items) }
     ensures count { IfOk result (λ v. vec_len v ≡ length port.now.subports) }
 {
@@ -66,7 +67,7 @@ fn subport_at<T: Parcel>(
 ) -> Result<SubportBooks<T>, NoMemory>
     requires port { IsPort p.now.subport_kinds p.now.pipe_kinds port.now }
     requires subport { IsSubport p.now.subport_kinds p.now.pipe_kinds s.now }
-    ensures start { IfOk result (λ b. subport_start p.now port.now s.now ≡ Some (subport_of b)) }
+    ensures start { IfOk result (λ b. subport_start p.now port.now s.now ≡ Some (subport_up_to 0 b)) }
     ensures sound { IfOk result (λ b. IsSubportBooks T.packet 0 b) }
 {
     let pipes = pipes_at(alloc, p, port.line, s)?;
@@ -80,6 +81,7 @@ fn subport_at<T: Parcel>(
         watermark: shares.watermark(mtu_cost, &plan),
         period: 0,
         cursor: 0,
+        active: ActivePipes::none(alloc, pipes.len())?,
         pipes,
     })
 }
@@ -92,7 +94,7 @@ fn pipes_at<T: Parcel>(
 ) -> Result<Vec<PipeBooks<T>>, NoMemory>
     requires line { IsLineRate line }
     requires subport { IsSubport p.now.subport_kinds p.now.pipe_kinds s.now }
-    ensures start { IfOk result (λ v. map pipe_of v.items ≡ map (pipe_start line s.now.sizes) (kinds_of p.now s.now)) }
+    ensures start { IfOk result (λ v. map (pipe_up_to 0) v.items ≡ map (pipe_start line s.now.sizes) (kinds_of p.now s.now)) }
     ensures sound { IfOk result (λ v. All (IsPipeBooks T.packet 0) v.items) }
     ensures count { IfOk result (λ v. vec_len v ≡ length s.now.pipes) }
 {
@@ -113,7 +115,7 @@ fn pipe_at<T: Parcel>(
 ) -> Result<PipeBooks<T>, NoMemory>
     requires line { IsLineRate line }
     requires kind { IsPipeKind kind.now }
-    ensures start { IfOk result (λ p. pipe_of p ≡ pipe_start line sizes.now kind.now) }
+    ensures start { IfOk result (λ p. pipe_up_to 0 p ≡ pipe_start line sizes.now kind.now) }
     ensures sound { IfOk result (λ p. IsPipeBooks T.packet 0 p) }
 {
     Ok(PipeBooks {

@@ -1,10 +1,10 @@
 //! A visit of one pipe of a subport.
-ghost use Rattle.std.specs.Prelude.{◌≡◌, ◌+◌, ◌*◌, ◌-◌, ◌≤◌, ◌<◌, ◌^◌, take, length, vec_len, vec_capacity};
+ghost use Rattle.std.specs.Prelude.{◌≡◌, ℕ, ◌+◌, ◌*◌, ◌-◌, ◌≤◌, ◌<◌, ◌^◌, take, length, vec_len, vec_capacity};
 ghost use Rattle.port_sched.specs.Visit.{cursor_after, visit_pipe};
 ghost use Rattle.port_sched.specs.Renewal.{subport_renewed, pipe_renewed};
 ghost use Rattle.port_sched.specs.Subport.{Subport};
 ghost use Rattle.port_sched.specs.PortDequeue.{cost_with};
-ghost use Rattle.port_sched.specs.Books.{service_of, subport_of, pipe_of, IsSubportBooks};
+ghost use Rattle.port_sched.specs.Books.{service_up_to, subport_up_to, pipe_of, IsSubportBooks};
 
 use crate::level::BEST_EFFORT;
 use crate::pipe::PipeBooks;
@@ -15,8 +15,8 @@ use qos_base::{Departure, Parcel, Steps};
 use std::sync::ledger::Ledger;
 
 impl<T: Parcel> SubportBooks<T> {
-    /// Pipe `pipe` is visited: what is due is renewed, its classes send, and the cursor moves on. The buckets are brought up
-    /// to port time.
+    /// Pipe `pipe` is visited: its bucket and the subport's are brought up to port time, what is due is renewed, its classes
+    /// send, and the cursor moves on.
     pub(crate) fn visit<L: Ledger>(
         &mut self,
         pipe: usize,
@@ -32,8 +32,8 @@ impl<T: Parcel> SubportBooks<T> {
         requires time { serving.old.time ≤ 2 ^ 62 + 2 ^ 28 }
         requires first { serving.old.first ≤ length out.old.items }
         requires space { vec_len out.old + serving.old.room ≤ vec_capacity out.old }
-        ensures exact { service_of serving.new self.new out.new.items
-            ≡ visit_pipe (cost_with T.packet serving.old.overhead) pipe (service_of serving.old self.old out.old.items) }
+        ensures exact { service_up_to serving.old.time serving.new self.new out.new.items
+            ≡ visit_pipe (cost_with T.packet serving.old.overhead) pipe (service_up_to serving.old.time serving.old self.old out.old.items) }
         ensures sound { IsSubportBooks T.packet serving.old.time self.new }
         ensures same { (serving.new.overhead ≡ serving.old.overhead)
             × (serving.new.oversub ≡ serving.old.oversub) × (serving.new.first ≡ serving.old.first) }
@@ -44,10 +44,14 @@ impl<T: Parcel> SubportBooks<T> {
         ensures kept { length self.new.pipes.items ≡ length self.old.pipes.items }
         ensures held { take serving.old.first out.new.items ≡ take serving.old.first out.old.items }
         ensures capacity { vec_capacity out.new ≡ vec_capacity out.old }
+        ensures steps { steps.new ≡ steps.old + 4 }
     {
+        self.level.bring(serving.time, steps);
         self.renew(serving.time, steps);
         let pipes = self.pipes.len();
         let visited = &mut self.pipes[pipe];
+        let had = visited.has_packet();
+        visited.level.bring(serving.time, steps);
         visited.renew(
             serving.time,
             self.oversub,
@@ -56,6 +60,8 @@ impl<T: Parcel> SubportBooks<T> {
             steps,
         );
         serving.classes(&mut self.level, visited, out);
+        let has = visited.has_packet();
+        self.active.change(pipe, had, has);
         self.cursor = moved_cursor(pipe, pipes, serving.room);
     }
 
@@ -63,10 +69,12 @@ impl<T: Parcel> SubportBooks<T> {
     fn renew<L: Ledger>(&mut self, time: u64, steps: &mut Steps<L>)
         requires time { time ≤ 2 ^ 63 }
         requires periods { self.old.period < self.old.level.classes.due }
-        ensures exact { subport_of self.new ≡ subport_renewed time (subport_of self.old) }
+        ensures exact { (moment : ℕ) → subport_up_to moment self.new ≡ subport_renewed time (subport_up_to moment self.old) }
         ensures periods { self.new.period < self.new.level.classes.due }
         ensures bucket { self.new.level.bucket ≡ self.old.level.bucket }
         ensures pipes { self.new.pipes ≡ self.old.pipes }
+        ensures active { self.new.active ≡ self.old.active }
+        ensures step { steps.new ≡ steps.old + 1 }
     {
         if self.oversub && self.oversubscribed && self.level.is_due(time) {
             self.watermark.renew(
@@ -96,6 +104,7 @@ impl<T: Parcel> PipeBooks<T> {
             → pipe_of self.new ≡ pipe_renewed time s (pipe_of self.old) }
         ensures bucket { self.new.level.bucket ≡ self.old.level.bucket }
         ensures queues { self.new.queues ≡ self.old.queues }
+        ensures step { steps.new ≡ steps.old + 1 }
     {
         self.level.renew(time, steps);
         if oversub && self.seen != Some(period) {

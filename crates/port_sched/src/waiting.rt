@@ -1,7 +1,7 @@
 //! The packets that wait.
 ghost use Rattle.std.specs.Prelude.{◌≡◌, ◌≤◌, ◌<◌, ◌*◌, ◌^◌, ℕ, length, drop, slice_get, All};
 ghost use Rattle.port_sched.specs.Port.{left_in, left_in_subport, left_of, queued, emptied, pipe_emptied, subport_emptied};
-ghost use Rattle.port_sched.specs.Books.{pipe_of, subport_of, IsPipeBooks, IsSubportBooks};
+ghost use Rattle.port_sched.specs.Books.{pipe_of, subport_up_to, KnowsActive, IsPipeBooks, IsSubportBooks};
 
 use crate::pipe::{PIPE_QUEUES, PipeBooks};
 use crate::port::PortSched;
@@ -40,7 +40,7 @@ impl<T: Parcel> SubportBooks<T> {
     fn queued(&self) -> u64
         requires few { length self.now.pipes.items ≤ 4096 }
         requires queues { All (λ p. length p.queues.lists ≡ 16) self.now.pipes.items }
-        ensures exact { result ≡ length (left_in_subport (subport_of self.now)) }
+        ensures exact { (moment : ℕ) → result ≡ length (left_in_subport (subport_up_to moment self.now)) }
         ensures limit { result ≤ 2 ^ 48 }
     {
         let mut total = 0;
@@ -51,14 +51,20 @@ impl<T: Parcel> SubportBooks<T> {
     }
 
     fn drain_out(&mut self) -> Option<T>
+        requires active { KnowsActive self.old }
         requires queues { All (λ p. length p.queues.lists ≡ 16) self.old.pipes.items }
-        ensures first { result ≡ slice_get (left_in_subport (subport_of self.old)) 0 }
-        ensures rest { left_in_subport (subport_of self.new) ≡ drop 1 (left_in_subport (subport_of self.old)) }
-        ensures same { subport_emptied (subport_of self.new) ≡ subport_emptied (subport_of self.old) }
+        ensures first { (moment : ℕ) → result ≡ slice_get (left_in_subport (subport_up_to moment self.old)) 0 }
+        ensures rest { (moment : ℕ) → left_in_subport (subport_up_to moment self.new) ≡ drop 1 (left_in_subport (subport_up_to moment self.old)) }
+        ensures same { (moment : ℕ) → subport_emptied (subport_up_to moment self.new) ≡ subport_emptied (subport_up_to moment self.old) }
         ensures sound { (ticked : ℕ) → IsSubportBooks T.packet ticked self.old → IsSubportBooks T.packet ticked self.new }
     {
         for pipe in 0..self.pipes.len() {
-            if let Some(t) = self.pipes[pipe].drain_out() {
+            let books = &mut self.pipes[pipe];
+            let had = books.has_packet();
+            let first = books.drain_out();
+            let has = books.has_packet();
+            self.active.change(pipe, had, has);
+            if let Some(t) = first {
                 return Some(t);
             }
         }
@@ -88,6 +94,7 @@ impl<T: Parcel> PipeBooks<T> {
         ensures first { result ≡ slice_get (left_in (pipe_of self.old)) 0 }
         ensures rest { left_in (pipe_of self.new) ≡ drop 1 (left_in (pipe_of self.old)) }
         ensures same { pipe_emptied (pipe_of self.new) ≡ pipe_emptied (pipe_of self.old) }
+        ensures level { self.new.level ≡ self.old.level }
         ensures sound { (ticked : ℕ) → IsPipeBooks T.packet ticked self.old → IsPipeBooks T.packet ticked self.new }
     {
         if !self.has_packet() {

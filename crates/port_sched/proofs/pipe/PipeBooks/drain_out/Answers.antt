@@ -1,14 +1,14 @@
-use Rattle.std.proofs.Common.{◌<◌, [], List, Some, length, drop, refl, sym, ap, subst, ◌∙◌, arith}
+use Rattle.std.proofs.Common.{◌<◌, ◌+◌, [], List, Some, length, take, drop, refl, sym, ap, subst, ◌∙◌, arith}
 use Rattle.std.specs.List.{flat_map, slice_get}
-use Rattle.std.proofs.lemmas.List.{get_or_default}
+use Rattle.std.proofs.lemmas.List.{get_or_default, length-set}
 use Rattle.queue_store.specs.Queues.{Queues, list_of}
 use Rattle.port_sched.specs.Books.{pipe_of, IsPipeBooks}
 use Rattle.port_sched.specs.Port.{pipe_emptied}
-use Rattle.port_sched.proofs.Pieces.{Drains, first-drained, rest-drained}
+use Rattle.port_sched.proofs.Pieces.{Drains, first-drained, rest-drained, same-drained, empty-drained}
 use Rattle.port_sched.proofs.Places.{pipe-drained, pipe-same}
 use Rattle.port_sched.proofs.Filled.{none-left}
 use Rattle.port_sched.proofs.pipe.PipeBooks.drain_out.Goals as goal
-use Rattle.port_sched.proofs.pipe.PipeBooks.drain_out.Goals.{In-Some}
+use Rattle.port_sched.proofs.pipe.PipeBooks.drain_out.Goals.{In-Some, In_default}
 use Rattle.port_sched.proofs.pipe.PipeBooks.drain_out.Given.{Over}
 
 abbrev lists-at : (g : Over) (c : In-Some g) → List (List g.row.T.Denot)
@@ -54,3 +54,36 @@ pub returns-in-Some-clause-sound : goal.returns-in-Some-clause-sound
 returns-in-Some-clause-sound g c = λ ticked was.
     subst (λ q. IsPipeBooks g.T.Parcel.packet ticked (record c.loop-queue.self { queues = q })) (sym c.in-Some.ensures.rest)
     (pipe-drained g.T.Parcel.packet ticked c.loop-queue.self c.loop-queue.queue (omega arith) (c.loop-queue.invariant.sound ticked was))
+
+-- the queue is empty, and all is as it was
+none-there :
+    (g : Over) (c : In_default g) →
+    Drains (λ ts. ts) c.loop-queue.self.queues.lists c.loop-queue.queue (list_of c.loop-queue.queue c.loop-queue.self.queues) (drop 1 (list_of c.loop-queue.queue c.loop-queue.self.queues)) c.pop.result
+none-there g c =
+    let inside : c.loop-queue.queue < length c.loop-queue.self.queues.lists = omega arith in
+    record {
+      inside = inside;
+      here = get_or_default c.loop-queue.self.queues.lists c.loop-queue.queue [] _ inside;
+      before = c.loop-queue.invariant.before;
+      first = c.pop.ensures.first;
+      rest = refl;
+    }
+
+pub loop-queue-preserved : goal.loop-queue-preserved
+loop-queue-preserved g c =
+    let self = c.loop-queue.self in
+    let lists = self.queues.lists in
+    let k = c.loop-queue.queue in
+    let rest = c.pop.ensures.rest in
+    let d = none-there g c in
+    let so_far = c.loop-queue.invariant in
+    record {
+      before = ap (λ (q : Queues g.row.T.Denot). flat_map (λ ts. ts) (take (k + 1) q.lists)) rest ∙ empty-drained (λ ts. ts) lists k _ _ _ d c.in_default.is;
+      same = ap (λ (q : Queues g.row.T.Denot). pipe_emptied (pipe_of (record self { queues = q }))) rest ∙ pipe-same self k ∙ so_far.same;
+      left = ap (λ (q : Queues g.row.T.Denot). flat_map (λ ts. ts) q.lists) rest ∙ same-drained (λ ts. ts) lists k _ _ _ d c.in_default.is ∙ so_far.left;
+      level = so_far.level;
+      queues = ap (λ (q : Queues g.row.T.Denot). length q.lists) rest ∙ length-set lists k (drop 1 (list_of k self.queues)) ∙ so_far.queues;
+      sound = λ ticked was.
+          subst (λ q. IsPipeBooks g.T.Parcel.packet ticked (record self { queues = q })) (sym rest)
+          (pipe-drained g.T.Parcel.packet ticked self k d.inside (so_far.sound ticked was));
+    }

@@ -1,9 +1,10 @@
-use Rattle.std.proofs.Common.{◌≡◌, ◌≤◌, ◌+◌, ◌%◌, length, drop, sym, ap, ◌∙◌, arith}
+use Rattle.std.proofs.Common.{◌≡◌, ◌≤◌, ◌+◌, ◌*◌, ◌%◌, length, drop, sym, ap, ◌∙◌, subst, arith}
 use Rattle.std.proofs.lemmas.List.{length-map, drop_all}
 use Rattle.port_sched.specs.PortDequeue.{Course, dequeue_port}
-use Rattle.port_sched.specs.Books.{subport_of}
+use Rattle.port_sched.specs.Visits.{visit_steps}
+use Rattle.port_sched.specs.Books.{subport_up_to}
 use Rattle.port_sched.specs.Stage.{stage, course_of}
-use Rattle.port_sched.proofs.PortTurns.{GoesTo-then, HaveTurned-more, HaveTurned-all, dequeue_port-is, sends-after, count-after}
+use Rattle.port_sched.proofs.PortTurns.{GoesTo-then, HaveTurned-more, HaveTurned-all, HaveTurned-steps, dequeue_port-is, dequeue_visits-is, sends-after, count-after}
 use Rattle.port_sched.proofs.port.PortSched.dequeue.Goals as goal
 
 pub loop-ahead-preserved : goal.loop-ahead-preserved
@@ -18,16 +19,16 @@ loop-ahead-preserved g c =
       arith,
       c.len-subports.ensures,
       inside.subports.ok.0,
-      length-map inside.subports.items subport_of,
+      length-map inside.subports.items (subport_up_to inside.ticked),
       ap
           (λ p. length p.subports) c.self.view_is,
     ) in
     let place =
     c.around.ensures ∙ ap (λ n. (n + c.loop-ahead.ahead) % c.len-subports.result) cursor ∙ ap (λ n. (port.cursor + c.loop-ahead.ahead) % n) count in
     record {
-      so_far = HaveTurned-more g.T.Parcel.packet _ c.loop-ahead.ahead _ _
+      so_far = HaveTurned-more g.T.Parcel.packet _ _ c.loop-ahead.ahead _ _ _ _
           (course_of c.len-first.result (stage c.turn-left.new.self c.turn-left.result c.turn-left.new.out)) so_far.so_far
-          (omega (arith, count)) place done.exact;
+          done.steps (omega (arith, count)) place done.exact;
       goes = GoesTo-then c.len-first.result _ _ _ so_far.goes done.goes;
     }
 
@@ -43,7 +44,7 @@ returns g c =
       arith,
       c.len-subports.ensures,
       c.self.inside.subports.ok.0,
-      length-map c.self.inside.subports.items subport_of,
+      length-map c.self.inside.subports.items (subport_up_to c.self.inside.ticked),
       ap
           (λ p. length p.subports) c.self.view_is,
     ) in
@@ -51,7 +52,7 @@ returns g c =
     let none = drop_all c.len-first.result held (omega arith) in
     let course : Course g.row.T.Denot = course_of c.len-first.result (stage c.loop-ahead.self c.loop-ahead.left c.loop-ahead.out) in
     let whole : course ≡ dequeue_port packet c.args.now c.args.room c.args.self.now =
-    HaveTurned-all packet _ c.loop-ahead.ahead course c.loop-ahead.invariant.so_far over
+    HaveTurned-all packet _ _ c.loop-ahead.ahead course _ c.loop-ahead.invariant.so_far over
     ∙ sym (dequeue_port-is packet c.args.now c.args.room c.args.self.now port (drop c.len-first.result held) c.move_to.ensures none) in
     let sent : length c.loop-ahead.out.items + c.loop-ahead.left ≡ length held + c.args.room =
     omega (arith, goes.sent, c.loop-ahead.out.ok.0, c.args.out.now.ok.0) in
@@ -61,4 +62,7 @@ returns g c =
       count = count-after held c.loop-ahead.out.items _ c.len-first.result c.args.room c.loop-ahead.left first sent goes.room
           (ap (λ d. d.sends) whole);
       capacity = goes.capacity;
+      steps = subst (λ n. c.loop-ahead.steps ≤ c.args.steps.now + visit_steps * n)
+          (sym (dequeue_visits-is packet c.args.now c.args.room c.args.self.now port (drop c.len-first.result held) c.move_to.ensures none))
+          (HaveTurned-steps packet _ _ c.loop-ahead.ahead course _ c.loop-ahead.invariant.so_far);
     }

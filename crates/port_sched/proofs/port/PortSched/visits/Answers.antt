@@ -2,13 +2,13 @@ use Rattle.std.proofs.Common.{◌<◌, ◌≤◌, ℕ, ◌+◌, refl, sym, ◌�
 use Rattle.std.specs.Prelude.{slice_get}
 use Rattle.port_sched.specs.PortDequeue.{active_count, pipe_count}
 use Rattle.port_sched.specs.Stage.{stage, course_of}
-use Rattle.port_sched.proofs.PortTurns.{GoesTo-itself, GoesTo-then, left_over, left_over-falls, counts_miss, counts_send, active-within, HaveVisited-start, HaveVisited-more, HaveVisited-over}
+use Rattle.port_sched.proofs.PortTurns.{GoesTo-itself, GoesTo-then, left_over, left_over-falls, counts_miss, counts_send, active-within, HaveVisited-start, HaveVisited-more, HaveVisited-over, HaveVisited-steps}
 use Rattle.port_sched.proofs.port.PortSched.visits.Goals as goal
 
 pub loop-left-init : goal.loop-left-init
 loop-left-init g c = record {
   so_far = HaveVisited-start g.T.Parcel.packet c.args.subport (pipe_count g.T.Parcel.packet
-      (slice_get c.args.self.now.subports c.args.subport)) (course_of c.args.first (stage c.args.self.now c.args.room c.args.out.now));
+      (slice_get c.args.self.now.subports c.args.subport)) (course_of c.args.first (stage c.args.self.now c.args.room c.args.out.now)) c.args.steps.now;
   goes = GoesTo-itself c.args.first (stage c.args.self.now c.args.room c.args.out.now);
   pipes = refl;
 }
@@ -24,9 +24,9 @@ loop-left-preserved-then-after-left g c =
     (active-within packet (slice_get c.loop-left.self.subports c.args.subport)) in
     let counts = counts_miss c.visit-after.result c.loop-left.left c.loop-left.misses c.if-after-left.true in
     record {
-      so_far = HaveVisited-more packet c.args.subport _ _ c.loop-left.misses (c.loop-left.misses + 1) _
+      so_far = HaveVisited-more packet c.args.subport _ _ _ c.loop-left.misses (c.loop-left.misses + 1) _ _ _
           (course_of c.args.first (stage c.visit-after.new.self c.visit-after.result c.visit-after.new.out)) so_far.so_far
-          c.loop-left-test.true few most done.goes.room done.exact counts;
+          done.steps c.loop-left-test.true few most done.goes.room done.exact counts;
       goes = GoesTo-then c.args.first _ _ _ so_far.goes done.goes;
       pipes = done.pipes ∙ so_far.pipes;
     }
@@ -42,9 +42,9 @@ loop-left-preserved g c =
     (active-within packet (slice_get c.loop-left.self.subports c.args.subport)) in
     let counts = counts_send c.visit-after.result c.loop-left.left c.loop-left.misses c.if-after-left.false in
     record {
-      so_far = HaveVisited-more packet c.args.subport _ _ c.loop-left.misses 0 _
+      so_far = HaveVisited-more packet c.args.subport _ _ _ c.loop-left.misses 0 _ _ _
           (course_of c.args.first (stage c.visit-after.new.self c.visit-after.result c.visit-after.new.out)) so_far.so_far
-          c.loop-left-test.true few most done.goes.room done.exact counts;
+          done.steps c.loop-left-test.true few most done.goes.room done.exact counts;
       goes = GoesTo-then c.args.first _ _ _ so_far.goes done.goes;
       pipes = done.pipes ∙ so_far.pipes;
     }
@@ -77,9 +77,17 @@ loop-left-smaller g c =
 
 pub returns-else-misses-active-clause-exact : goal.returns-else-misses-active-clause-exact
 returns-else-misses-active-clause-exact g c =
-    HaveVisited-over g.T.Parcel.packet c.args.subport _ _ _ _ c.loop-left.invariant.so_far
+    HaveVisited-over g.T.Parcel.packet c.args.subport _ _ _ _ _ _ c.loop-left.invariant.so_far
     (inr (subst (λ n. n ≤ c.loop-left.misses) c.active.ensures c.if-misses-active.false))
 
 pub returns-after-loop-left-clause-exact : goal.returns-after-loop-left-clause-exact
 returns-after-loop-left-clause-exact g c =
-    HaveVisited-over g.T.Parcel.packet c.args.subport _ _ _ _ c.loop-left.invariant.so_far (inl (omega arith))
+    HaveVisited-over g.T.Parcel.packet c.args.subport _ _ _ _ _ _ c.loop-left.invariant.so_far (inl (omega arith))
+
+pub returns-else-misses-active-clause-steps : goal.returns-else-misses-active-clause-steps
+returns-else-misses-active-clause-steps g c =
+    HaveVisited-steps g.T.Parcel.packet c.args.subport _ _ _ _ _ _ c.loop-left.invariant.so_far
+
+pub returns-after-loop-left-clause-steps : goal.returns-after-loop-left-clause-steps
+returns-after-loop-left-clause-steps g c =
+    HaveVisited-steps g.T.Parcel.packet c.args.subport _ _ _ _ _ _ c.loop-left.invariant.so_far

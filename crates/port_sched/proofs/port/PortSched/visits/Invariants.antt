@@ -9,7 +9,7 @@ use Rattle.port_sched.proofs.port.PortSched.visits.Given as goal
 abbrev pub invariant-loop-left : goal.invariant-loop-left
 invariant-loop-left g l = record {
   so_far : HaveVisited g.T.Parcel.packet l.subport (pipe_count g.T.Parcel.packet (slice_get l.initial.self.subports l.subport))
-      (course_of l.first (stage l.initial.self l.room l.initial.out)) l.misses (course_of l.first (stage l.self l.left l.out));
+      (course_of l.first (stage l.initial.self l.room l.initial.out)) l.initial.steps l.misses (course_of l.first (stage l.self l.left l.out)) l.steps;
   goes : GoesTo l.first (stage l.initial.self l.room l.initial.out) (stage l.self l.left l.out);
   pipes : pipe_count g.T.Parcel.packet (slice_get l.self.subports l.subport) ≡ pipe_count g.T.Parcel.packet
       (slice_get l.initial.self.subports l.subport);
