@@ -1,7 +1,7 @@
 //! The outside of the program: files by their names, and standard output. What they hold is not told,
 //! and any call may fail; each failure is counted.
 ghost use Rattle.std.specs.IoError.{error_kind};
-ghost use Rattle.std.specs.Prelude.{◌≡◌, ◌↔◌, ◌≤◌, [], None, Some, length, IfOk, IfSome, string_bytes};
+ghost use Rattle.std.specs.Prelude.{◌≡◌, ◌<◌, ◌↔◌, ◌≤◌, [], None, Some, length, IfOk, IfSome, string_bytes};
 ghost use Rattle.qos_io.specs.Fault.{HasRisen};
 
 use qos_io::{Failed, PutFault, Shelf, Sink, Source};
@@ -168,7 +168,6 @@ impl Source for FileSource {
 }
 
 // Reads again where a signal interrupts the read.
-#[inline(always)]
 fn read_some(reader: &mut BufReader<File>, buf: &mut [u8]) -> Option<usize>
     ensures { IfSome result (λ n. n ≤ length buf.old) }
 {
@@ -205,8 +204,11 @@ impl Write for Target {
 #[derive(Drop)]
 pub struct FileSink {
     writer: BufWriter<Target>,
+    // how many bytes of the next piece it has
+    held: usize,
     name: String,
     faults: u64,
+    ghost piece: { held < 262144 },
 }
 
 impl FileSink {
@@ -220,6 +222,7 @@ impl FileSink {
         };
         Ok(FileSink {
             writer,
+            held: 0,
             name: String::from_str(alloc, name)?,
             faults: 0,
         })
@@ -230,6 +233,19 @@ impl FileSink {
         ensures { string_bytes self.new.name ≡ string_bytes self.old.name }
     {
         self.writer.get_mut().file = Some(file);
+    }
+
+    // Writes bytes so that the file is written in whole pieces from its beginning on: one that ends within a page of the
+    // system's is begun again with the next.
+    fn write(&mut self, bytes: &[u8]) -> io::Result<()>
+        ensures name { self.new.name ≡ self.old.name }
+        ensures faults { self.new.faults ≡ self.old.faults }
+    {
+        let room = (PIECE - self.held).min(bytes.len());
+        self.writer.write_all(&bytes[..room])?;
+        self.writer.write_all(&bytes[room..])?;
+        self.held = (self.held + bytes.len()) % PIECE;
+        Ok(())
     }
 }
 
@@ -243,7 +259,7 @@ impl Sink for FileSink {
     ghost IsSure = { λ _. ⊥ };
 
     fn put(&mut self, bytes: &[u8]) -> Result<(), PutFault> {
-        if self.writer.write_all(bytes).is_ok() {
+        if self.write(bytes).is_ok() {
             return Ok(());
         }
         self.faults = raised(self.faults);
