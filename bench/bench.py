@@ -1,4 +1,4 @@
-"""How fast the program is: captures of many packets, the best of some runs, beside plain copies.
+"""How fast the program is: captures of many packets, the best of some runs, in turn with plain copies.
 
 usage: bench.py PROGRAM [PACKETS]
 
@@ -68,7 +68,7 @@ def wide_gateway():
 
 # Name, profile, subscribers with packets, sizes, longest gap in nanoseconds, runs, and whether each packet must be sent.
 ROWS = [
-    ("one pipe, mixed sizes", ONE_PIPE, [0], MIXED, 880, 3, True),
+    ("one pipe, mixed sizes", ONE_PIPE, [0], MIXED, 880, 9, True),
     ("one pipe, 64 bytes", ONE_PIPE, [0], SMALL, 200, 3, True),
     ("256 pipes, mixed sizes", read_gateway(), list(range(256)), MIXED, 17_000, 3, False),
     ("4,096 pipes, 64 of them with packets", wide_gateway(), list(range(0, 4096, 64)), MIXED, 17_000, 1, False),
@@ -109,20 +109,24 @@ def timed(words):
     return seconds, usage.ru_maxrss * 1024
 
 
-def measure(name, words, out, runs, packets):
-    """Runs a command some times, each time to a new file, prints the best, and answers its seconds and what it wrote."""
-    seconds, memories = [], []
+def measure(commands, runs, packets):
+    """Runs each command so many times, in turn and each time to a new file, prints the best of each, and answers the seconds of
+    each and how much each wrote."""
+    seconds, memories, written = ({name: [] for name in commands} for _ in range(3))
     for _ in range(runs):
-        if os.path.exists(out):
+        for name, (words, out) in commands.items():
+            if os.path.exists(out):
+                os.remove(out)
+            run = timed(words)
+            seconds[name].append(run[0])
+            memories[name].append(run[1])
+            written[name].append(os.path.getsize(out))
             os.remove(out)
-        run = timed(words)
-        seconds.append(run[0])
-        memories.append(run[1])
-    written, best = os.path.getsize(out), min(seconds)
-    os.remove(out)
-    all_runs = " ".join(f"{one:.2f}" for one in seconds)
-    print(f"  {name:4} {best:.2f} s (runs: {all_runs})  {packets / best:,.0f} packets/s  {min(memories):,} bytes of peak memory")
-    return best, written
+    best = {name: min(runs_of) for name, runs_of in seconds.items()}
+    for name in commands:
+        all_runs = " ".join(f"{one:.2f}" for one in seconds[name])
+        print(f"  {name:4} {best[name]:.2f} s (runs: {all_runs})  {packets / best[name]:,.0f} packets/s  {min(memories[name]):,} bytes of peak memory")
+    return best, {name: min(sizes) for name, sizes in written.items()}
 
 
 def compare(program, folder, packets, row):
@@ -133,15 +137,18 @@ def compare(program, folder, packets, row):
     with open(profile, "w", encoding="ascii") as file:
         file.write(text)
     print(f"{name}: {packets:,} packets, {size:,} bytes; best of {runs}, wall time, files in the page cache")
-    words = [program, "run", "--profile", profile, "--out", prefix, capture]
-    run, written = measure("qos", words, prefix + ".0.pcap", runs, packets)
-    if whole and written != size:
-        sys.exit(f"{written} bytes were written, and not {size}: not each packet was sent")
-    through, _ = measure("dd", ["dd", f"if={capture}", f"of={copy_of}", "bs=256K", "status=none"], copy_of, runs, packets)
-    copy, _ = measure("cp", ["cp", capture, copy_of], copy_of, runs, packets)
+    commands = {
+        "qos": ([program, "run", "--profile", profile, "--out", prefix, capture], prefix + ".0.pcap"),
+        "dd": (["dd", f"if={capture}", f"of={copy_of}", "bs=256K", "status=none"], copy_of),
+        "cp": (["cp", capture, copy_of], copy_of),
+    }
+    best, written = measure(commands, runs, packets)
+    if whole and written["qos"] != size:
+        sys.exit(f"{written['qos']} bytes were written, and not {size}: not each packet was sent")
     os.remove(capture)
-    print(f"  {run / through:.2f} times as long as dd, {run / copy:.2f} times as long as cp; {written:,} bytes were written")
-    return run / copy
+    times = {name: best["qos"] / best[name] for name in ("dd", "cp")}
+    print(f"  {times['dd']:.2f} times as long as dd, {times['cp']:.2f} times as long as cp; {written['qos']:,} bytes were written")
+    return times["cp"]
 
 
 def main():
