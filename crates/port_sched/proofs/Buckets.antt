@@ -1,7 +1,7 @@
 -- A bucket that is brought up to date when it is used is the one that was stepped all the time.
 use Rattle.std.proofs.Common.{◌≡◌, ◌≤◌, ℕ, ◌-◌, ◌/◌, List, [], ◌∷◌, length, map, refl, sym, ap, ◌∙◌, subst, arith}
 use Rattle.std.specs.List.{All}
-use Rattle.std.proofs.lemmas.List.Elements.{All-head, All-tail, All-weaker}
+use Rattle.std.proofs.lemmas.List.Elements.{All-head, All-tail}
 use Rattle.qos_base.specs.declared.packet.Pkt.{Pkt}
 use Rattle.credit_book.specs.Bucket.{multiples, after_periods}
 use Rattle.credit_book.specs.Laws.{PeriodsAddUp, MultiplesAddUp}
@@ -54,34 +54,6 @@ up_to-start l start =
     no-periods l (multiples l.bucket.period l.bucket.time 0) (ap (λ t. multiples l.bucket.period t 0) start ∙ same)
 
 module _ {T : Type 0} (packet : T → Pkt) (ticked moment : ℕ) (later : ticked ≤ moment) where
-  level-sound : (l : LevelBooks) → IsLevelBooks ticked l → IsLevelBooks moment l
-  level-sound l sound = let before = sound.not_ahead in record { some_period = sound.some_period; not_ahead = omega arith }
-
-  pipe-sound-later : (p : PipeBooks T) → IsPipeBooks packet ticked p → IsPipeBooks packet moment p
-  pipe-sound-later p sound = record { level = level-sound p.level sound.level; lists = sound.lists; sizes = sound.sizes; short = sound.short }
-
-  subport-sound : (s : SubportBooks T) → IsSubportBooks packet ticked s → IsSubportBooks packet moment s
-  subport-sound s sound = record {
-    level = level-sound s.level sound.level;
-    cursor = sound.cursor;
-    few = sound.few;
-    periods = sound.periods;
-    pipes = All-weaker (IsPipeBooks packet ticked) (IsPipeBooks packet moment) pipe-sound-later s.pipes.items sound.pipes;
-    active = sound.active;
-  }
-
-  -- what a scheduler keeps true of its parts, up to a later moment
-  pub IsPortSched-later : (bytes longest place : ℕ) (subports : List (SubportBooks T)) → IsPortSched packet bytes longest moment ticked place subports
-      → IsPortSched packet bytes longest moment moment place subports
-  IsPortSched-later bytes longest place subports sound = record {
-    overhead = sound.overhead;
-    mtu = sound.mtu;
-    not_ahead = omega arith;
-    cursor = sound.cursor;
-    few = sound.few;
-    each = All-weaker (IsSubportBooks packet ticked) (IsSubportBooks packet moment) subport-sound subports sound.each;
-  }
-
   module _ (periods : PeriodsAddUp) (multiples_too : MultiplesAddUp) where
     level-later : (l : LevelBooks) → IsLevelBooks ticked l → level_tick ticked moment (level_up_to ticked l) ≡ level_up_to moment l
     level-later l sound =

@@ -176,11 +176,6 @@ module _ {T : Type 0} (packet : T → Pkt) (k : ℕ) (c : Course T) where
       → later ≡ turn_of packet c k
   turn-kept later some is left = sym (some_room later.room _ _ left) ∙ ap (moved_on packet k) is ∙ sym (some_room c.room _ _ some)
 
-  -- the visits of a turn, where there is one
-  pub turn-counted : c.room ≢ 0
-      → turn_visits packet k c ≡ visit_count packet ((c.room + 1) * (pipe_count packet (subport_at packet k c) + 1)) k 0 c
-  turn-counted some = some_room c.room _ _ some
-
 module _ {T : Type 0} (packet : T → Pkt) (start : Course T) (from : ℕ) where
   -- the first so many subports of a dequeue have had their turn, with steps enough for their visits
   pub record HaveTurned (turns : ℕ) (now : Course T) (steps : ℕ) : Type 0 where
@@ -191,9 +186,6 @@ module _ {T : Type 0} (packet : T → Pkt) (start : Course T) (from : ℕ) where
   length-in_order : length (in_order packet start.port) ≡ length start.port.subports
   length-in_order = length-map-range_with_len (λ ahead. (start.port.cursor + ahead) % length start.port.subports) 0
       (length start.port.subports)
-
-  pub HaveTurned-start : HaveTurned 0 start from
-  HaveTurned-start = record { so_far = refl; counted = omega arith }
 
   pub HaveTurned-more : (turns k steps more : ℕ) (now next : Course T) → HaveTurned turns now steps
       → more ≤ steps + visit_steps * turn_visits packet k now → turns < length start.port.subports
