@@ -241,10 +241,15 @@ impl FileSink {
         ensures name { self.new.name ≡ self.old.name }
         ensures faults { self.new.faults ≡ self.old.faults }
     {
-        let room = (PIECE - self.held).min(bytes.len());
+        let room = PIECE - self.held;
+        if bytes.len() < room {
+            self.writer.write_all(bytes)?;
+            self.held += bytes.len();
+            return Ok(());
+        }
         self.writer.write_all(&bytes[..room])?;
         self.writer.write_all(&bytes[room..])?;
-        self.held = (self.held + bytes.len()) % PIECE;
+        self.held = (bytes.len() - room) % PIECE;
         Ok(())
     }
 }
