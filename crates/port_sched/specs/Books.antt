@@ -66,6 +66,14 @@ module _ {T : Type 0} where
     pipes = map (pipe_up_to moment) s.pipes.items;
   }
 
+  -- whatever the moment, this holds of the subport that the books stand for
+  abbrev pub Stands : (Subport T → Type 0) → SubportBooks T → Type 0
+  Stands P s = (moment : ℕ) → P (subport_up_to moment s)
+
+  -- whatever the moment, this holds of the subports that the books stand for before and after
+  abbrev pub Moves : (Subport T → Subport T → Type 0) → SubportBooks T → SubportBooks T → Type 0
+  Moves R from to = (moment : ℕ) → R (subport_up_to moment from) (subport_up_to moment to)
+
   -- the sends of this dequeue are those of `out` from `first` on
   abbrev pub visit_of : Serving → LevelBooks → PipeBooks T → List (Departure T) → Visit T
   visit_of v l p out = record {

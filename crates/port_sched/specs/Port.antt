@@ -1,6 +1,7 @@
 -- A port: its time, its subports, how its buckets are stepped, and what an arrival does (DPDK Programmer's Guide, Quality of
 -- Service Framework: scheduling hierarchy).
-use Rattle.std.specs.Prelude.{ℕ, zero, suc, ◌==◌, nat_le, nat_lt, Bool, ◌&&◌, false, List, [], ◌∷◌, length, map, slice_get, Option, None, Some, is_some, option_and_then}
+use Rattle.std.specs.Prelude.{ℕ, zero, suc, ◌==◌, nat_le, nat_lt, Bool, ◌&&◌, false, List, [], ◌∷◌, length, map}
+use Rattle.std.specs.Prelude.{slice_get, Option, None, Some, is_some, option_and_then}
 use Rattle.std.specs.List.{flat_map}
 use Rattle.qos_base.specs.declared.packet.Pkt.{Pkt}
 use Rattle.queue_store.specs.Queues.{joined, list_of, size_of}

@@ -1,5 +1,6 @@
 -- What one dequeue of a port sends: visits of pipes, in turns of subports.
-use Rattle.std.specs.Prelude.{ℕ, zero, suc, ◌+◌, ◌*◌, ◌%◌, ◌==◌, ◌||◌, nat_le, max, if◌then◌else◌, List, [], length, map, fold, count_by, slice_get, slice_set, Option, None, Some}
+use Rattle.std.specs.Prelude.{ℕ, zero, suc, ◌+◌, ◌*◌, ◌%◌, ◌==◌, ◌||◌, nat_le, max, if◌then◌else◌}
+use Rattle.std.specs.Prelude.{List, [], length, map, fold, count_by, slice_get, slice_set, Option, None, Some}
 use Rattle.std.specs.List.{range_with_len}
 use Rattle.qos_base.specs.declared.packet.Pkt.{Pkt}
 use Rattle.qos_base.specs.declared.packet.Departure.{Departure}

@@ -1,7 +1,7 @@
 //! What an arrival does.
 ghost use Rattle.std.specs.Prelude.{◌≡◌, ◌≤◌, ◌<◌, ◌↔◌, ℕ, length, slice_get, All, IsTrue, OnOk, IfErr, IsErr};
 ghost use Rattle.port_sched.specs.Port.{has_place, is_full, is_full_at, with_arrival, in_subport, after_arrival};
-ghost use Rattle.port_sched.specs.Books.{pipe_of, subport_up_to, KnowsActive, IsPipeBooks, IsSubportBooks};
+ghost use Rattle.port_sched.specs.Books.{pipe_of, Stands, Moves, KnowsActive, IsPipeBooks, IsSubportBooks};
 
 use crate::pipe::{PIPE_QUEUES, PipeBooks};
 use crate::port::PortSched;
@@ -47,9 +47,9 @@ impl<T: Parcel> SubportBooks<T> {
         requires wire { (T.packet t).wire ≤ MAX_WIRE }
         requires queues { All (λ p. length p.queues.lists ≡ 16) self.old.pipes.items }
         requires active { KnowsActive self.old }
-        ensures full { (moment : ℕ) → IsErr result ↔ IsTrue (is_full_at queue (slice_get (subport_up_to moment self.old).pipes pipe)) }
-        ensures joined { OnOk result ((moment : ℕ) → subport_up_to moment self.new ≡ in_subport pipe (with_arrival queue t) (subport_up_to moment self.old)) }
-        ensures refused { IfErr result (λ e. (e.parcel ≡ t) × ((moment : ℕ) → subport_up_to moment self.new ≡ subport_up_to moment self.old)) }
+        ensures full { Stands (λ s. IsErr result ↔ IsTrue (is_full_at queue (slice_get s.pipes pipe))) self.old }
+        ensures joined { OnOk result (Moves (λ from to. to ≡ in_subport pipe (with_arrival queue t) from) self.old self.new) }
+        ensures refused { IfErr result (λ e. (e.parcel ≡ t) × Moves (λ from to. to ≡ from) self.old self.new) }
         ensures sound { (ticked : ℕ) → IsSubportBooks T.packet ticked self.old → IsSubportBooks T.packet ticked self.new }
     {
         let books = &mut self.pipes[pipe as usize];

@@ -31,7 +31,14 @@ impl<T: Parcel> Model for PortSched<T> {
 
     ghost Value = { Port T };
 
-    ghost view = { λ s. record { overhead = s.overhead; mtu = s.mtu; time = s.time; ticked = s.ticked; cursor = s.cursor; subports = map (subport_up_to s.ticked) s.subports.items } };
+    ghost view = { λ s. record {
+      overhead = s.overhead;
+      mtu = s.mtu;
+      time = s.time;
+      ticked = s.ticked;
+      cursor = s.cursor;
+      subports = map (subport_up_to s.ticked) s.subports.items;
+    } };
 
     ghost invariant = { λ s. IsPortSched T.packet s.overhead s.mtu s.time s.ticked s.cursor s.subports.items };
 }
@@ -100,7 +107,8 @@ impl<T: Parcel> PortSched<T> {
     ) -> u32
         requires ready { IsReady subport first (stage self.old room out.old) }
         requires time { self.old.time + max_cost * room ≤ 2 ^ 62 + 2 ^ 28 }
-        ensures exact { course_of first (stage self.new result out.new) ≡ turn_of T.packet (course_of first (stage self.old room out.old)) subport }
+        ensures exact { course_of first (stage self.new result out.new)
+            ≡ turn_of T.packet (course_of first (stage self.old room out.old)) subport }
         ensures goes { GoesTo first (stage self.old room out.old) (stage self.new result out.new) }
         ensures steps { steps.new ≤ steps.old + visit_steps * turn_visits T.packet subport (course_of first (stage self.old room out.old)) }
     {
@@ -126,7 +134,8 @@ impl<T: Parcel> PortSched<T> {
         requires ready { IsReady subport first (stage self.old room out.old) }
         requires time { self.old.time + max_cost * room ≤ 2 ^ 62 + 2 ^ 28 }
         ensures exact { let most = (room + 1) * (pipe_count T.packet (slice_get self.old.subports subport) + 1) in
-            course_of first (stage self.new result out.new) ≡ visits T.packet most subport 0 (course_of first (stage self.old room out.old)) }
+            course_of first (stage self.new result out.new)
+            ≡ visits T.packet most subport 0 (course_of first (stage self.old room out.old)) }
         ensures goes { GoesTo first (stage self.old room out.old) (stage self.new result out.new) }
         ensures steps { let most = (room + 1) * (pipe_count T.packet (slice_get self.old.subports subport) + 1) in
             steps.new ≤ steps.old + visit_steps * visit_count T.packet most subport 0 (course_of first (stage self.old room out.old)) }
@@ -169,9 +178,11 @@ impl<T: Parcel> PortSched<T> {
     ) -> u32
         requires ready { IsReady subport first (stage self.old room out.old) }
         requires time { self.old.time ≤ 2 ^ 62 + 2 ^ 28 }
-        ensures exact { course_of first (stage self.new result out.new) ≡ visit T.packet subport (course_of first (stage self.old room out.old)) }
+        ensures exact { course_of first (stage self.new result out.new)
+            ≡ visit T.packet subport (course_of first (stage self.old room out.old)) }
         ensures goes { GoesTo first (stage self.old room out.old) (stage self.new result out.new) }
-        ensures pipes { pipe_count T.packet (slice_get self.new.subports subport) ≡ pipe_count T.packet (slice_get self.old.subports subport) }
+        ensures pipes { pipe_count T.packet (slice_get self.new.subports subport)
+            ≡ pipe_count T.packet (slice_get self.old.subports subport) }
         ensures steps { steps.new ≤ steps.old + visit_steps }
     {
         self.tick();

@@ -1,10 +1,10 @@
 //! A subport, which is a group of subscribers.
-ghost use Rattle.std.specs.Prelude.{◌≡◌, ◌+◌, ◌≤◌, ◌<◌, ℕ, length, count_by};
+ghost use Rattle.std.specs.Prelude.{◌≡◌, ◌+◌, ◌≤◌, ◌<◌, length, count_by};
 ghost use Rattle.active_bitmap.specs.NextActive.{next_active};
 ghost use Rattle.active_bitmap.specs.declared.bitmap.TheConstants.{MAX_PROBES};
 ghost use Rattle.port_sched.specs.Pipe.{has_packet};
 ghost use Rattle.port_sched.specs.Subport.{active};
-ghost use Rattle.port_sched.specs.Books.{subport_up_to, KnowsActive};
+ghost use Rattle.port_sched.specs.Books.{Stands, KnowsActive};
 
 use crate::active::ActivePipes;
 use crate::level::LevelBooks;
@@ -30,7 +30,7 @@ impl<T: Parcel> SubportBooks<T> {
     // How many pipes have a packet.
     pub(crate) fn active(&self) -> usize
         requires { KnowsActive self.now }
-        ensures { (moment : ℕ) → result ≡ count_by has_packet (subport_up_to moment self.now).pipes }
+        ensures { Stands (λ s. result ≡ count_by has_packet s.pipes) self.now }
     {
         self.active.count()
     }
@@ -39,7 +39,7 @@ impl<T: Parcel> SubportBooks<T> {
     pub(crate) fn next_pipe<L: Ledger>(&self, steps: &mut Steps<L>) -> Option<usize>
         requires active { KnowsActive self.now }
         requires cursor { self.now.cursor < length self.now.pipes.items }
-        ensures next { (moment : ℕ) → result ≡ next_active self.now.cursor (active (subport_up_to moment self.now)) }
+        ensures next { Stands (λ s. result ≡ next_active self.now.cursor (active s)) self.now }
         ensures probes { steps.new ≤ steps.old + MAX_PROBES }
     {
         self.active.next_from(self.cursor, steps)

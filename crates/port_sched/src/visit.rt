@@ -1,10 +1,10 @@
 //! A visit of one pipe of a subport.
-ghost use Rattle.std.specs.Prelude.{◌≡◌, ℕ, ◌+◌, ◌*◌, ◌-◌, ◌≤◌, ◌<◌, ◌^◌, take, length, vec_len, vec_capacity};
+ghost use Rattle.std.specs.Prelude.{◌≡◌, ◌+◌, ◌*◌, ◌-◌, ◌≤◌, ◌<◌, ◌^◌, take, length, vec_len, vec_capacity};
 ghost use Rattle.port_sched.specs.Visit.{cursor_after, visit_pipe};
 ghost use Rattle.port_sched.specs.Renewal.{subport_renewed, pipe_renewed};
 ghost use Rattle.port_sched.specs.Subport.{Subport};
 ghost use Rattle.port_sched.specs.PortDequeue.{cost_with};
-ghost use Rattle.port_sched.specs.Books.{service_up_to, subport_up_to, pipe_of, IsSubportBooks};
+ghost use Rattle.port_sched.specs.Books.{service_up_to, pipe_of, Moves, IsSubportBooks};
 
 use crate::level::BEST_EFFORT;
 use crate::pipe::PipeBooks;
@@ -69,7 +69,7 @@ impl<T: Parcel> SubportBooks<T> {
     fn renew<L: Ledger>(&mut self, time: u64, steps: &mut Steps<L>)
         requires time { time ≤ 2 ^ 63 }
         requires periods { self.old.period < self.old.level.classes.due }
-        ensures exact { (moment : ℕ) → subport_up_to moment self.new ≡ subport_renewed time (subport_up_to moment self.old) }
+        ensures exact { Moves (λ from to. to ≡ subport_renewed time from) self.old self.new }
         ensures periods { self.new.period < self.new.level.classes.due }
         ensures bucket { self.new.level.bucket ≡ self.old.level.bucket }
         ensures pipes { self.new.pipes ≡ self.old.pipes }

@@ -1,7 +1,7 @@
 //! The packets that wait.
 ghost use Rattle.std.specs.Prelude.{◌≡◌, ◌≤◌, ◌<◌, ◌*◌, ◌^◌, ℕ, length, drop, slice_get, All};
 ghost use Rattle.port_sched.specs.Port.{left_in, left_in_subport, left_of, queued, emptied, pipe_emptied, subport_emptied};
-ghost use Rattle.port_sched.specs.Books.{pipe_of, subport_up_to, KnowsActive, IsPipeBooks, IsSubportBooks};
+ghost use Rattle.port_sched.specs.Books.{pipe_of, Stands, Moves, KnowsActive, IsPipeBooks, IsSubportBooks};
 
 use crate::pipe::{PIPE_QUEUES, PipeBooks};
 use crate::port::PortSched;
@@ -40,7 +40,7 @@ impl<T: Parcel> SubportBooks<T> {
     fn queued(&self) -> u64
         requires few { length self.now.pipes.items ≤ 4096 }
         requires queues { All (λ p. length p.queues.lists ≡ 16) self.now.pipes.items }
-        ensures exact { (moment : ℕ) → result ≡ length (left_in_subport (subport_up_to moment self.now)) }
+        ensures exact { Stands (λ s. result ≡ length (left_in_subport s)) self.now }
         ensures limit { result ≤ 2 ^ 48 }
     {
         let mut total = 0;
@@ -53,9 +53,9 @@ impl<T: Parcel> SubportBooks<T> {
     fn drain_out(&mut self) -> Option<T>
         requires active { KnowsActive self.old }
         requires queues { All (λ p. length p.queues.lists ≡ 16) self.old.pipes.items }
-        ensures first { (moment : ℕ) → result ≡ slice_get (left_in_subport (subport_up_to moment self.old)) 0 }
-        ensures rest { (moment : ℕ) → left_in_subport (subport_up_to moment self.new) ≡ drop 1 (left_in_subport (subport_up_to moment self.old)) }
-        ensures same { (moment : ℕ) → subport_emptied (subport_up_to moment self.new) ≡ subport_emptied (subport_up_to moment self.old) }
+        ensures first { Stands (λ s. result ≡ slice_get (left_in_subport s) 0) self.old }
+        ensures rest { Moves (λ from to. left_in_subport to ≡ drop 1 (left_in_subport from)) self.old self.new }
+        ensures same { Moves (λ from to. subport_emptied to ≡ subport_emptied from) self.old self.new }
         ensures sound { (ticked : ℕ) → IsSubportBooks T.packet ticked self.old → IsSubportBooks T.packet ticked self.new }
     {
         for pipe in 0..self.pipes.len() {
