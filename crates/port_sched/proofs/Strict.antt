@@ -1,9 +1,12 @@
 -- The turn of a strict class, a packet at a time.
-use Rattle.std.proofs.Common.{◌≡◌, ◌<◌, ◌≤◌, ◌⊎◌, ℕ, suc, ◌+◌, ◌-◌, min, [], take, drop, length, sym, ap, ◌∙◌, arith}
+use Rattle.std.proofs.Common.{◌≡◌, ◌<◌, ◌≤◌, ◌⊎◌, ℕ, zero, suc, ◌+◌, ◌-◌, min, [], take, drop, length, false, refl, inr, sym, ap, ◌∙◌, arith}
 use Rattle.std.proofs.lemmas.List.{get_or-set_same, length-take-le}
-use Rattle.queue_store.specs.Queues.{list_of}
+use Rattle.std.specs.List.{fold, list_any, range_with_len}
+use Rattle.queue_store.specs.Queues.{list_of, is_filled}
 use Rattle.port_sched.specs.Sends.{total_cost, longest_front}
-use Rattle.port_sched.specs.Classes.{Visit, front_sent, four_allow, strict_turn}
+use Rattle.port_sched.specs.Classes.{Visit, front_sent, four_allow, strict_turn, strict_turns}
+use Rattle.port_sched.proofs.Filled.{first-none}
+use Rattle.port_sched.proofs.Ranges.{fold-range_more}
 use Rattle.port_sched.proofs.Longest.{longest-over, longest-one}
 use Rattle.port_sched.proofs.Paid.{front_sent-add, front_sent-none, four_allow-sent}
 
@@ -33,3 +36,18 @@ module _ {T : Type 0} (cost : T → ℕ) (class : ℕ) (v : Visit T) where
       let more = longest_front cost (four_allow class next) (min next.room (length rest)) rest in
       let plus : 1 + more ≡ suc more = omega arith in
       front_sent-add cost class class 1 more v within ∙ ap (λ n. front_sent cost class class n v) (plus ∙ count)
+
+module _ {T : Type 0} (cost : T → ℕ) (v : Visit T) where
+  -- where no packet waits in a strict class's queue, none of them sends
+  pub strict-none : 12 ≤ length v.pipe.queues.lists → list_any is_filled (take 12 v.pipe.queues.lists) ≡ false → v ≡ strict_turns cost v
+  strict-none enough none = below 12 (omega arith)
+    where
+      below : (n : ℕ) → n ≤ 12 → v ≡ fold (strict_turn cost) v (range_with_len 0 n)
+      below zero few = refl
+      below (suc n) few =
+          let one : n + 1 ≡ suc n = omega arith in
+          let empty = first-none v.pipe.queues.lists 12 n enough none (omega arith) in
+          strict-over cost n v (inr (λ waits. absurd (omega (arith, empty, waits))))
+          ∙ ap (λ u. strict_turn cost u n) (below n (omega arith))
+          ∙ sym (fold-range_more (strict_turn cost) v n)
+          ∙ ap (λ m. fold (strict_turn cost) v (range_with_len 0 m)) one

@@ -1,7 +1,9 @@
 -- What the numbers and queues that the code keeps stand for, and what it keeps true of them.
-use Rattle.std.specs.Prelude.{◌≡◌, ℕ, ◌*◌, ◌/◌, ◌≤◌, ◌<◌, List, length, map, drop, All}
+use Rattle.std.specs.Prelude.{◌≡◌, ℕ, ◌*◌, ◌/◌, ◌≤◌, ◌<◌, Bool, List, length, map, take, drop, All}
+use Rattle.std.specs.List.{list_any}
 use Rattle.qos_base.specs.declared.packet.Pkt.{Pkt}
 use Rattle.qos_base.specs.declared.packet.Departure.{Departure}
+use Rattle.queue_store.specs.Queues.{is_filled}
 use Rattle.port_sched.specs.declared.level.LevelBooks.{LevelBooks}
 use Rattle.port_sched.specs.declared.pipe.PipeBooks.{PipeBooks}
 use Rattle.port_sched.specs.declared.subport.SubportBooks.{SubportBooks}
@@ -51,6 +53,10 @@ module _ {T : Type 0} where
     seen = p.seen;
     queues = p.queues;
   }
+
+  -- whether a packet waits in one of its strict classes' queues
+  abbrev pub strict_waits : PipeBooks T → Bool
+  strict_waits p = list_any is_filled (take 12 p.queues.lists)
 
   abbrev pub pipe_up_to : ℕ → PipeBooks T → Pipe T
   pipe_up_to moment p = record (pipe_of p) { level = level_up_to moment p.level }

@@ -113,6 +113,10 @@ module _ {T : Type 0} (cost : T → ℕ) where
       let left = if nat_lt n v.room && best_effort_waits drawn then after_pick drawn else drawn in
       with_sent 12 (take n front) (record v { pipe = share_paid v.oversub (total_cost cost (take n front)) left })
 
-  -- the classes are looked at once each, in their order
+  -- the strict classes are looked at once each, in their order
+  abbrev pub strict_turns : Visit T → Visit T
+  strict_turns v = fold strict_turn v (range_with_len 0 12)
+
+  -- and best effort after them
   unfoldable pub classes_turn : Visit T → Visit T
-  classes_turn v = best_effort_turn (fold strict_turn v (range_with_len 0 12))
+  classes_turn v = best_effort_turn (strict_turns v)

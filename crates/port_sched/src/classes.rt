@@ -5,7 +5,8 @@ ghost use Rattle.queue_store.specs.Queues.{list_of};
 ghost use Rattle.wrr_pick.specs.declared.wrr.TheConstants.{MAX_COST};
 ghost use Rattle.port_sched.specs.Sends.{total_cost};
 ghost use Rattle.port_sched.specs.Level.{allowance};
-ghost use Rattle.port_sched.specs.Classes.{four_allow, front_sent, strict_turn, best_effort_allows, best_effort_turn, classes_turn};
+ghost use Rattle.port_sched.specs.Classes.{four_allow, front_sent, strict_turn, strict_turns};
+ghost use Rattle.port_sched.specs.Classes.{best_effort_allows, best_effort_turn, classes_turn};
 ghost use Rattle.port_sched.specs.PortDequeue.{cost_with};
 ghost use Rattle.port_sched.specs.Books.{level_of, pipe_of, visit_of};
 ghost use Rattle.port_sched.specs.Standing.{standing, visit_at, AreQueues, IsReady, IsOnward};
@@ -28,10 +29,28 @@ impl Serving {
             ≡ classes_turn (cost_with T.packet self.old.overhead) (visit_at (standing self.old level.old pipe.old out.old)) }
         ensures onward { IsOnward T.packet (standing self.old level.old pipe.old out.old) (standing self.new level.new pipe.new out.new) }
     {
+        self.strict_classes(level, pipe, out);
+        self.best_effort(level, pipe, out);
+    }
+
+    // The strict classes are looked at once each, unless no packet waits in any.
+    fn strict_classes<T: Parcel>(
+        &mut self,
+        level: &mut LevelBooks,
+        pipe: &mut PipeBooks<T>,
+        out: &mut Vec<Departure<T>>,
+    )
+        requires { IsReady T.packet (standing self.old level.old pipe.old out.old) }
+        ensures exact { visit_at (standing self.new level.new pipe.new out.new)
+            ≡ strict_turns (cost_with T.packet self.old.overhead) (visit_at (standing self.old level.old pipe.old out.old)) }
+        ensures onward { IsOnward T.packet (standing self.old level.old pipe.old out.old) (standing self.new level.new pipe.new out.new) }
+    {
+        if !pipe.strict_waits() {
+            return;
+        }
         for class in 0..BEST_EFFORT {
             self.strict(class, level, pipe, out);
         }
-        self.best_effort(level, pipe, out);
     }
 
     // A strict class sends from its queue while room is left and the front fits.

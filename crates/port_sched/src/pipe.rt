@@ -4,7 +4,7 @@ ghost use Rattle.queue_store.specs.Queues.{list_of};
 ghost use Rattle.wrr_pick.specs.declared.wrr.TheConstants.{MAX_COST};
 ghost use Rattle.port_sched.specs.Pipe.{has_packet, filled};
 ghost use Rattle.port_sched.specs.Classes.{best_effort_waits, charged, share_paid};
-ghost use Rattle.port_sched.specs.Books.{pipe_of};
+ghost use Rattle.port_sched.specs.Books.{pipe_of, strict_waits};
 
 use crate::level::LevelBooks;
 use qos_base::Parcel;
@@ -40,6 +40,16 @@ impl<T: Parcel> PipeBooks<T> {
             self.queues.len(14) > 0,
             self.queues.len(15) > 0,
         ]
+    }
+
+    // Whether a packet waits in one of the strict classes' queues: whether more queues have one than those of best effort.
+    pub(crate) fn strict_waits(&self) -> bool
+        requires { length self.now.queues.lists ≡ 16 }
+        ensures { result ≡ strict_waits self.now }
+    {
+        let [a, b, c, d] = self.filled();
+        let best_effort = usize::from(a) + usize::from(b) + usize::from(c) + usize::from(d);
+        self.queues.filled() > best_effort
     }
 
     // Whether a packet waits in one of the queues.

@@ -1,6 +1,7 @@
 -- The queues that rings stand for, and what a change of one ring does to them.
 use Rattle.std.proofs.Common.{◌≡◌, ℕ, ◌^◌, ◌<◌, ◌≤◌, ◌+◌, Bool, true, false, cond, not, eqb, ltb, ◌||◌, List, [], ◌∷◌, ◌++◌, length, map, drop, get_or, set, refl, sym, ap, ◌∙◌, arith}
 use Rattle.std.specs.Prelude.{◌==◌, All}
+use Rattle.std.specs.List.{count_by}
 use Rattle.std.proofs.lemmas.List.{map-set, get_or-map, length-append}
 use Rattle.std.proofs.lemmas.Bool.Decides.{nat_tests}
 use Rattle.std.proofs.lemmas.List.Sums.{sum_by-set, sum_by-cons}
@@ -56,6 +57,12 @@ module _ {T : Type 0} where
   -- a ring counts as one where it holds a packet
   abbrev one_filled : Buffer T → ℕ
   one_filled r = cond (is_filled r.items) 1 0
+
+  pub filled-lists : (rings : List (Buffer T)) → filled_in rings ≡ count_by is_filled (queues_of rings).lists
+  filled-lists [] = refl
+  filled-lists (r ∷ rings) =
+      sum_by-cons one_filled r rings ∙ ap (λ n. one_filled r + n) (filled-lists rings)
+      ∙ sym (sum_by-cons (λ (ts : List T). cond {A = ℕ} (is_filled ts) 1 0) r.items (queues_of rings).lists)
 
   pub any-filled : (rings : List (Buffer T)) → ltb 0 (filled_in rings) ≡ has_packet (queues_of rings)
   any-filled [] = refl

@@ -1,5 +1,5 @@
 //! A ring buffer for each queue.
-ghost use Rattle.std.specs.Prelude.{◌≡◌, ◌<◌, ◌≤◌, ◌↔◌, length, IfOk, OnOk, IfErr, IsErr, slice_get, option_copied};
+ghost use Rattle.std.specs.Prelude.{◌≡◌, ◌<◌, ◌≤◌, ◌↔◌, length, IfOk, OnOk, IfErr, IsErr, count_by, slice_get, option_copied};
 
 use circular_buffer::HeapCircularBuffer;
 use qos_base::{NoMemory, Parcel, TailFull};
@@ -30,7 +30,7 @@ impl<T: Parcel> Model for QueueStore<T> {
 }
 
 impl<T: Parcel> QueueStore<T> {
-    ghost use Rattle.queue_store.specs.Queues.{Queues, empty_queues, size_of, list_of, joined, without_front, has_packet};
+    ghost use Rattle.queue_store.specs.Queues.{Queues, empty_queues, size_of, list_of, joined, without_front, is_filled, has_packet};
 
     /// Empty queues of these sizes, in packets. A queue of size 0 is closed: it turns every packet away.
     ///
@@ -94,6 +94,13 @@ impl<T: Parcel> QueueStore<T> {
         ensures within { result ≤ size_of queue self.now }
     {
         self.rings[queue as usize].len() as u32
+    }
+
+    /// How many queues have a packet.
+    pub fn filled(&self) -> usize
+        ensures { result ≡ count_by is_filled self.now.lists }
+    {
+        self.filled
     }
 
     /// Whether a packet waits in any queue.

@@ -1,34 +1,14 @@
-use Rattle.std.proofs.Common.{◌≡◌, sym, ap, ◌∙◌, arith, rules}
-use Rattle.std.specs.List.{fold, range_with_len}
-use Rattle.port_sched.specs.Classes.{Visit, strict_turn, best_effort_turn, classes_turn}
+use Rattle.std.proofs.Common.{ap, ◌∙◌}
+use Rattle.port_sched.specs.Classes.{best_effort_turn, classes_turn}
 use Rattle.port_sched.specs.PortDequeue.{cost_with}
 use Rattle.port_sched.specs.Books.{visit_of}
-use Rattle.port_sched.proofs.Ranges.{fold-range_more}
 use Rattle.port_sched.proofs.serving.Serving.classes.Goals as goal
-
-pub loop-class-preserved : goal.loop-class-preserved
-loop-class-preserved g c =
-    let packet = g.T.Parcel.packet in
-    let class = c.loop-class.class in
-    let first = visit_of c.args.self.now c.args.level.now c.args.pipe.now c.args.out.now.items in
-    let now = visit_of c.loop-class.self c.loop-class.level c.loop-class.pipe c.loop-class.out.items in
-    let turn = strict_turn (cost_with packet c.args.self.now.overhead) in
-    record {
-      so_far = c.strict.ensures.exact
-          ∙ ap (λ n. strict_turn (cost_with packet n) now class) c.loop-class.invariant.onward.overhead
-          ∙ ap (λ (v : Visit g.row.T.Denot). turn v class) c.loop-class.invariant.so_far
-          ∙ sym (fold-range_more turn first class);
-      onward = search rules;
-    }
 
 pub returns-clause-exact : goal.returns-clause-exact
 unfolding classes_turn
 returns-clause-exact g c =
     let packet = g.T.Parcel.packet in
-    let first = visit_of c.args.self.now c.args.level.now c.args.pipe.now c.args.out.now.items in
-    let now = visit_of c.loop-class.self c.loop-class.level c.loop-class.pipe c.loop-class.out.items in
-    let turn = strict_turn (cost_with packet c.args.self.now.overhead) in
-    let all : c.loop-class.class ≡ 12 = omega arith in
+    let now = visit_of c.strict_classes.new.self c.strict_classes.new.level c.strict_classes.new.pipe c.strict_classes.new.out.items in
     c.best_effort.ensures.exact
-    ∙ ap (λ n. best_effort_turn (cost_with packet n) now) c.loop-class.invariant.onward.overhead
-    ∙ ap (best_effort_turn (cost_with packet c.args.self.now.overhead)) (c.loop-class.invariant.so_far ∙ ap (λ n. fold turn first (range_with_len 0 n)) all)
+    ∙ ap (λ n. best_effort_turn (cost_with packet n) now) c.strict_classes.ensures.onward.overhead
+    ∙ ap (best_effort_turn (cost_with packet c.args.self.now.overhead)) c.strict_classes.ensures.exact

@@ -3,7 +3,7 @@ use Rattle.std.specs.List.{fold, range_with_len}
 use Rattle.port_sched.specs.Classes.{strict_turn}
 use Rattle.port_sched.specs.PortDequeue.{cost_with}
 use Rattle.port_sched.specs.Standing.{standing, visit_at, IsOnward}
-use Rattle.port_sched.proofs.serving.Serving.classes.Given as goal
+use Rattle.port_sched.proofs.serving.Serving.strict_classes.Given as goal
 
 -- the classes below this one have sent
 abbrev pub invariant-loop-class : goal.invariant-loop-class
