@@ -6,6 +6,7 @@ use Rattle.qos_pcap.specs.declared.fault.PcapFault.{PcapFault}
 use Rattle.qos_pcap.specs.declared.fault.Stop.{Stop}
 use Rattle.qos_pcap.specs.declared.fault.Stop.TheVariants.{End}
 use Rattle.qos_pcap.specs.declared.form.Form.{Form}
+use Rattle.qos_pcap.specs.declared.limits.TheConstants.{MAX_CAP}
 use Rattle.qos_pcap.specs.First.{FirstStamps, first_stamp, stamp_at}
 use Rattle.qos_pcap.specs.Format.{Record, cap_in, header_of, stamp_in}
 use Rattle.qos_pcap.specs.Reads.{Reads, stop_at}
@@ -21,9 +22,9 @@ stamp_at-record form at (suc left) (b ∷ bs) none = elim (cases_lt (length (b �
       let e = rw test at none in cc
   | inr long ↦
       let there : nat_lt (length (b ∷ bs)) 16 ≡ false = grind (arith, nat_tests) in
-      elim (cases_lt 262144 (cap_in form (b ∷ bs))) [
+      elim (cases_lt MAX_CAP (cap_in form (b ∷ bs))) [
         | inl huge ↦
-            let test : nat_lt 262144 (cap_in form (b ∷ bs)) ≡ true = grind (arith, nat_tests) in
+            let test : nat_lt MAX_CAP (cap_in form (b ∷ bs)) ≡ true = grind (arith, nat_tests) in
             let e = rw (there, test) at none in cc
         | inr fits ↦ stamp_at-there form (suc left) (b ∷ bs) (omega arith) long fits
       ]
@@ -37,10 +38,10 @@ stamp_at-end form at (suc left) (b ∷ bs) end = elim (cases_lt (length (b ∷ b
   | inl short ↦ stamp_at-short form (suc left) (b ∷ bs) short
   | inr long ↦
       let there : nat_lt (length (b ∷ bs)) 16 ≡ false = grind (arith, nat_tests) in
-      elim (cases_lt 262144 (cap_in form (b ∷ bs))) [
+      elim (cases_lt MAX_CAP (cap_in form (b ∷ bs))) [
         | inl huge ↦ stamp_at-huge form (suc left) (b ∷ bs) huge
         | inr fits ↦
-            let test : nat_lt 262144 (cap_in form (b ∷ bs)) ≡ false = grind (arith, nat_tests) in
+            let test : nat_lt MAX_CAP (cap_in form (b ∷ bs)) ≡ false = grind (arith, nat_tests) in
             elim (cases_lt (length (b ∷ bs)) (16 + cap_in form (b ∷ bs))) [
               | inl cut ↦
                   let body : nat_lt (length (b ∷ bs)) (16 + cap_in form (b ∷ bs)) ≡ true = grind (arith, nat_tests) in

@@ -15,6 +15,7 @@ use Rattle.qos_pcap.specs.declared.form.Form.{Form}
 use Rattle.qos_pcap.specs.declared.form.Order.{Order}
 use Rattle.qos_pcap.specs.declared.form.Order.TheVariants.{Little, Big}
 use Rattle.qos_pcap.specs.declared.head.Head.{Head}
+use Rattle.qos_pcap.specs.declared.limits.TheConstants.{MAX_CAP}
 use Rattle.qos_pcap.specs.Fill.{Fills}
 use Rattle.qos_pcap.specs.First.{stamp_at}
 use Rattle.qos_pcap.specs.Format.{Record, cap_in, number_in, record_in, stamp_in}
@@ -84,13 +85,14 @@ short_from form at (suc left) (b ∷ bs) records stop more some short reads =
     fault_from form at (suc left) (b ∷ bs) (CutRecord at) records stop (rw test refl) reads
 
 -- the captured length is above the limit
-pub huge_from : (form : Form) (at left : ℕ) (bytes : List ℕ) (records : List Record) (stop : Stop) → 0 < left → 16 ≤ length bytes → 262144 < cap_in form bytes
-    → ReadsFrom form at left bytes records stop → (records ≡ []) × (stop ≡ Fault (HugeRecord at (cap_in form bytes)))
+pub huge_from : (form : Form) (at left : ℕ) (bytes : List ℕ) (records : List Record) (stop : Stop) → 0 < left → 16 ≤ length bytes
+    → MAX_CAP < cap_in form bytes → ReadsFrom form at left bytes records stop
+    → (records ≡ []) × (stop ≡ Fault (HugeRecord at (cap_in form bytes)))
 huge_from form at left [] records stop more head huge reads = absurd (omega arith)
 huge_from form at zero (b ∷ bs) records stop more head huge reads = absurd (omega arith)
 huge_from form at (suc left) (b ∷ bs) records stop more head huge reads =
     let long : nat_lt (length (b ∷ bs)) 16 ≡ false = grind (arith, nat_tests) in
-    let test : nat_lt 262144 (cap_in form (b ∷ bs)) ≡ true = grind (arith, nat_tests) in
+    let test : nat_lt MAX_CAP (cap_in form (b ∷ bs)) ≡ true = grind (arith, nat_tests) in
     fault_from form at (suc left) (b ∷ bs) (HugeRecord at (cap_in form (b ∷ bs))) records stop (rw (long, test) refl) reads
 
 -- no head may be read, it is cut, or its captured length is above the limit: there is no stamp
@@ -103,43 +105,44 @@ stamp_at-short form zero bytes short = refl
 stamp_at-short form (suc left) bytes short =
     let test : nat_lt (length bytes) 16 ≡ true = grind (arith, nat_tests) in rw test refl
 
-pub stamp_at-huge : (form : Form) (left : ℕ) (bytes : List ℕ) → 262144 < cap_in form bytes → stamp_at form left bytes ≡ None
+pub stamp_at-huge : (form : Form) (left : ℕ) (bytes : List ℕ) → MAX_CAP < cap_in form bytes → stamp_at form left bytes ≡ None
 stamp_at-huge form zero bytes huge = refl
 stamp_at-huge form (suc left) bytes huge =
-    let test : nat_lt 262144 (cap_in form bytes) ≡ true = grind (arith, nat_tests) in
+    let test : nat_lt MAX_CAP (cap_in form bytes) ≡ true = grind (arith, nat_tests) in
     elim (cases_lt (length bytes) 16) [
       | inl short ↦ stamp_at-short form (suc left) bytes short
       | inr long ↦ let there : nat_lt (length bytes) 16 ≡ false = grind (arith, nat_tests) in rw (there, test) refl
     ]
 
 -- the head is there
-pub stamp_at-there : (form : Form) (left : ℕ) (bytes : List ℕ) → 0 < left → 16 ≤ length bytes → cap_in form bytes ≤ 262144 → stamp_at form left bytes ≡ Some (stamp_in form bytes)
+pub stamp_at-there : (form : Form) (left : ℕ) (bytes : List ℕ) → 0 < left → 16 ≤ length bytes → cap_in form bytes ≤ MAX_CAP
+    → stamp_at form left bytes ≡ Some (stamp_in form bytes)
 stamp_at-there form zero bytes more head fits = absurd (omega arith)
 stamp_at-there form (suc left) bytes more head fits =
     let there : nat_lt (length bytes) 16 ≡ false = grind (arith, nat_tests) in
-    let test : nat_lt 262144 (cap_in form bytes) ≡ false = grind (arith, nat_tests) in
+    let test : nat_lt MAX_CAP (cap_in form bytes) ≡ false = grind (arith, nat_tests) in
     rw (there, test) refl
 
 -- a head that is neither cut nor too large: whether the record stops here is up to its body
-stop_at-head : (form : Form) (at left : ℕ) (bytes : List ℕ) → 0 < left → 16 ≤ length bytes → cap_in form bytes ≤ 262144
+stop_at-head : (form : Form) (at left : ℕ) (bytes : List ℕ) → 0 < left → 16 ≤ length bytes → cap_in form bytes ≤ MAX_CAP
     → stop_at form at left bytes ≡ (if nat_lt (length bytes) (16 + cap_in form bytes) then Some (Fault (CutRecord at)) else None)
 stop_at-head form at left [] more head fits = absurd (omega arith)
 stop_at-head form at zero (b ∷ bs) more head fits = absurd (omega arith)
 stop_at-head form at (suc left) (b ∷ bs) more head fits =
     let long : nat_lt (length (b ∷ bs)) 16 ≡ false = grind (arith, nat_tests) in
-    let test : nat_lt 262144 (cap_in form (b ∷ bs)) ≡ false = grind (arith, nat_tests) in
+    let test : nat_lt MAX_CAP (cap_in form (b ∷ bs)) ≡ false = grind (arith, nat_tests) in
     rw (long, test) refl
 
 -- its body is cut
-stop_at-cut : (form : Form) (at left : ℕ) (bytes : List ℕ) → 0 < left → 16 ≤ length bytes → cap_in form bytes ≤ 262144 → length bytes < 16 + cap_in form bytes
-    → stop_at form at left bytes ≡ Some (Fault (CutRecord at))
+stop_at-cut : (form : Form) (at left : ℕ) (bytes : List ℕ) → 0 < left → 16 ≤ length bytes → cap_in form bytes ≤ MAX_CAP
+    → length bytes < 16 + cap_in form bytes → stop_at form at left bytes ≡ Some (Fault (CutRecord at))
 stop_at-cut form at left bytes more head fits short =
     let test : nat_lt (length bytes) (16 + cap_in form bytes) ≡ true = grind (arith, nat_tests) in
     stop_at-head form at left bytes more head fits ∙ rw test refl
 
 -- its body is whole
-pub stop_at-whole : (form : Form) (at left : ℕ) (bytes : List ℕ) → 0 < left → 16 ≤ length bytes → cap_in form bytes ≤ 262144 → 16 + cap_in form bytes ≤ length bytes
-    → stop_at form at left bytes ≡ None
+pub stop_at-whole : (form : Form) (at left : ℕ) (bytes : List ℕ) → 0 < left → 16 ≤ length bytes → cap_in form bytes ≤ MAX_CAP
+    → 16 + cap_in form bytes ≤ length bytes → stop_at form at left bytes ≡ None
 stop_at-whole form at left bytes more head fits long =
     let test : nat_lt (length bytes) (16 + cap_in form bytes) ≡ false = grind (arith, nat_tests) in
     stop_at-head form at left bytes more head fits ∙ rw test refl
@@ -189,10 +192,10 @@ head_filled form n start buf bytes head size full filled is =
 
 -- the record that this head begins goes on with its body
 pub keeps_head : (form : Form) (at next limit given : ℕ) (bytes : List ℕ) (head : Head) (records : List Record) (stop : Stop) → given < limit → 16 ≤ length bytes → IsHeadIn form bytes head
-    → head.cap ≤ 262144 → head.offset ≡ at → next ≡ at + 16 + head.cap → ReadsFrom form at (limit - given) bytes records stop
+    → head.cap ≤ MAX_CAP → head.offset ≡ at → next ≡ at + 16 + head.cap → ReadsFrom form at (limit - given) bytes records stop
     → GivesBody form head next (limit - (given + 1)) (drop 16 bytes) records stop
 keeps_head form at next limit given bytes head [] stop more there is fits offset after reads =
-    let small : cap_in form bytes ≤ 262144 = rw is.cap at fits in
+    let small : cap_in form bytes ≤ MAX_CAP = rw is.cap at fits in
     let left : 0 < limit - given = omega arith in
     elim (cases_lt (length bytes) (16 + cap_in form bytes)) [
       | inl short ↦
@@ -204,7 +207,7 @@ keeps_head form at next limit given bytes head [] stop more there is fits offset
           cc
     ]
 keeps_head form at next limit given bytes head (r ∷ rs) stop more there is fits offset after reads =
-    let small : cap_in form bytes ≤ 262144 = rw is.cap at fits in
+    let small : cap_in form bytes ≤ MAX_CAP = rw is.cap at fits in
     let left : 0 < limit - given = omega arith in
     elim (cases_lt (length bytes) (16 + cap_in form bytes)) [
       | inl short ↦

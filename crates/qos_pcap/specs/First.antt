@@ -5,15 +5,17 @@ use Rattle.qos_pcap.specs.declared.fault.PcapFault.TheVariants.{Read}
 use Rattle.qos_pcap.specs.declared.fault.Stop.{Stop}
 use Rattle.qos_pcap.specs.declared.form.Form.{Form}
 use Rattle.qos_pcap.specs.declared.head.Head.{Head}
+use Rattle.qos_pcap.specs.declared.limits.TheConstants.{MAX_CAP}
 use Rattle.qos_pcap.specs.Format.{Record, cap_in, header_of, stamp_in}
 use Rattle.qos_pcap.specs.Reads.{Reads, IsWholeCapture}
 
--- The stamp that the head at the front of these bytes has, where `left` more records may be read. A head is there where its 16 bytes are and its captured length is at most 262,144.
+-- The stamp that the head at the front of these bytes has, where `left` more records may be read. A head is there where
+-- its 16 bytes are and its captured length is at most MAX_CAP.
 abbrev pub stamp_at : Form → ℕ → List ℕ → Option ℕ
 stamp_at form zero bytes = None
 stamp_at form (suc left) bytes =
     if nat_lt (length bytes) 16 then None
-    else if nat_lt 262144 (cap_in form bytes) then None
+    else if nat_lt MAX_CAP (cap_in form bytes) then None
     else Some (stamp_in form bytes)
 
 abbrev pub stamp_after : Result Form PcapFault → ℕ → List ℕ → Option ℕ

@@ -10,6 +10,7 @@ use Rattle.qos_pcap.specs.declared.fault.Stop.{Stop}
 use Rattle.qos_pcap.specs.declared.fault.Stop.TheVariants.{Fault}
 use Rattle.qos_pcap.specs.declared.form.Form.{Form}
 use Rattle.qos_pcap.specs.declared.head.Head.{Head}
+use Rattle.qos_pcap.specs.declared.limits.TheConstants.{MAX_CAP}
 use Rattle.qos_pcap.specs.First.{stamp_at}
 use Rattle.qos_pcap.specs.Format.{Record}
 use Rattle.qos_pcap.specs.Heads.{recorded}
@@ -94,7 +95,7 @@ module _ {S : Type 0} {G : Ghosts S} where
     pub count_fits : given new < 2 ^ 32
     pub offset : head.offset ≡ next_offset old
     pub offset_after : next_offset new ≡ next_offset old + 16 + head.cap
-    pub cap_limit : head.cap ≤ 262144
+    pub cap_limit : head.cap ≤ MAX_CAP
     pub cap_within_wire : head.cap ≤ head.wire
 
   -- the body of the last head is behind it, and the next record is in front

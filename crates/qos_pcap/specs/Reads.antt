@@ -5,6 +5,7 @@ use Rattle.qos_pcap.specs.declared.fault.PcapFault.TheVariants.{TooMany, CutReco
 use Rattle.qos_pcap.specs.declared.fault.Stop.{Stop}
 use Rattle.qos_pcap.specs.declared.fault.Stop.TheVariants.{End, Fault}
 use Rattle.qos_pcap.specs.declared.form.Form.{Form}
+use Rattle.qos_pcap.specs.declared.limits.TheConstants.{MAX_CAP}
 use Rattle.qos_pcap.specs.Format.{Record, cap_in, record_in, header_of}
 
 -- Where `left` more records may be read and these bytes remain, from offset `at` on: what stops the reading here, or none where a whole record begins.
@@ -13,7 +14,7 @@ stop_at form at left [] = Some End
 stop_at form at zero (b ∷ bs) = Some (Fault (TooMany at))
 stop_at form at (suc left) (b ∷ bs) =
     if nat_lt (length (b ∷ bs)) 16 then Some (Fault (CutRecord at))
-    else if nat_lt 262144 (cap_in form (b ∷ bs)) then Some (Fault (HugeRecord at (cap_in form (b ∷ bs))))
+    else if nat_lt MAX_CAP (cap_in form (b ∷ bs)) then Some (Fault (HugeRecord at (cap_in form (b ∷ bs))))
     else if nat_lt (length (b ∷ bs)) (16 + cap_in form (b ∷ bs)) then Some (Fault (CutRecord at))
     else None
 

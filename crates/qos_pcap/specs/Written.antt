@@ -2,6 +2,7 @@
 use Rattle.std.specs.Prelude.{◌≡◌, ◌<◌, ◌≤◌, ℕ, ◌^◌, ◌/◌, ◌%◌, List, ◌++◌, length, All}
 use Rattle.std.specs.List.{flat_map}
 use Rattle.byteorder.specs.Endian.{little_bytes}
+use Rattle.qos_pcap.specs.declared.limits.TheConstants.{MAX_CAP}
 use Rattle.qos_pcap.specs.Format.{Record}
 use Rattle.qos_pcap.specs.Reads.{IsWholeCapture}
 
@@ -23,7 +24,7 @@ capture_text records =
 -- a record that can be written: it has all its captured bytes, no more than there were on the line, and numbers that fit their fields
 pub record IsWritable (r : Record) : Type 0 where
   pub cap : r.cap ≡ length r.body
-  pub cap_limit : r.cap ≤ 262144
+  pub cap_limit : r.cap ≤ MAX_CAP
   pub cap_within_wire : r.cap ≤ r.wire
   pub wire : r.wire < 2 ^ 32
   pub stamp : r.stamp ≤ 4294967295999999999

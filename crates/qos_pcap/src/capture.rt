@@ -1,14 +1,12 @@
 //! A capture that is being read, one record at a time.
 ghost use Rattle.std.specs.Prelude.{◌≤◌, ◌+◌, ◌*◌};
+ghost use Rattle.qos_pcap.specs.declared.limits.TheConstants.{MAX_CAP};
 
 use crate::fields::head_in;
 use crate::fill::{fill, skip};
 use crate::form::Form;
-use crate::{Head, PcapFault, Stop};
+use crate::{Head, MAX_CAP, PcapFault, Stop};
 use qos_io::{Failed, Source};
-
-/// The greatest captured length of a record, in bytes.
-const MAX_CAP: u32 = 262_144;
 
 /// Where a capture stands.
 #[derive(Clone, Copy)]
@@ -33,7 +31,7 @@ pub struct Capture<S: Source> {
     place: Place,
     ghost unit: { form.unit ≤ 1000 },
     ghost counted: { given ≤ limit },
-    ghost reached: { offset ≤ 24 + 262160 * given },
+    ghost reached: { offset ≤ 24 + (MAX_CAP + 16) * given },
 }
 
 impl<S: Source> Capture<S> {
@@ -69,7 +67,7 @@ impl<S: Source> Capture<S> {
     /// answers `None`, and reads nothing.
     ///
     /// `TooMany`: the limit of records is reached, and bytes are left. `CutRecord`: fewer than 16 bytes are
-    /// left here. `HugeRecord`: the captured length is above 262,144. `Read`: the source failed. Whether the
+    /// left here. `HugeRecord`: the captured length is above `MAX_CAP`. `Read`: the source failed. Whether the
     /// body is there is not looked at.
     #[inline(always)]
     pub fn next_head(&mut self) -> Result<Option<Head>, PcapFault>

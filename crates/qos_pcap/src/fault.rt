@@ -15,7 +15,7 @@ pub enum PcapFault {
     TooMany(u64),
     /// A record's head or body ends early; the byte at which the record begins.
     CutRecord(u64),
-    /// A captured length is above 262,144; the byte at which the record begins, and that length.
+    /// A captured length is above `MAX_CAP`; the byte at which the record begins, and that length.
     HugeRecord(u64, u32),
     /// The source failed, and has counted it.
     Read,

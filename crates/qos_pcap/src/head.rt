@@ -9,7 +9,7 @@ pub struct Head {
     pub offset: u64,
     /// When the packet was captured, in nanoseconds.
     pub stamp: u64,
-    /// How many of its bytes were captured; at most 262,144.
+    /// How many of its bytes were captured; at most `MAX_CAP`.
     pub cap: u32,
     /// Its length on the line in bytes: the greater of the record's two lengths.
     pub wire: u32,

@@ -12,11 +12,13 @@ mod fill;
 mod form;
 mod head;
 pub mod laws;
+mod limits;
 mod opening;
 mod write;
 
 pub use capture::Capture;
 pub use fault::{PcapFault, Stop};
 pub use head::Head;
+pub use limits::MAX_CAP;
 pub use opening::open_capture;
 pub use write::{put_header, put_record};

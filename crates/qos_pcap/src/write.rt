@@ -5,15 +5,13 @@ ghost use Rattle.qos_io.specs.Bytes.{held_after, PutSome};
 ghost use Rattle.qos_io.specs.Fault.{Counts};
 ghost use Rattle.qos_pcap.specs.Written.{header_text, record_text};
 
+use crate::MAX_CAP;
 use crate::fields::{ETHERNET, MAJOR, NANOSECONDS};
 use byteorder::{ByteOrder, LittleEndian};
 use qos_io::{PutFault, Sink};
 
 /// The minor version that is written.
 const MINOR: u16 = 4;
-
-/// The greatest captured length, in bytes.
-const SNAPLEN: u32 = 262_144;
 
 /// Nanoseconds in a second.
 const SECOND: u64 = 1_000_000_000;
@@ -26,7 +24,7 @@ fn header() -> [u8; 24]
     LittleEndian::write_u32(&mut bytes, NANOSECONDS);
     LittleEndian::write_u16(&mut bytes[4..], MAJOR);
     LittleEndian::write_u16(&mut bytes[6..], MINOR);
-    LittleEndian::write_u32(&mut bytes[16..], SNAPLEN);
+    LittleEndian::write_u32(&mut bytes[16..], MAX_CAP);
     LittleEndian::write_u32(&mut bytes[20..], ETHERNET);
     bytes
 }
@@ -62,7 +60,7 @@ pub fn put_header<K: Sink>(out: &mut K) -> Result<(), PutFault>
 ///
 /// `Failed`: the sink failed. `NoMemory`: the sink was refused memory.
 pub fn put_record<K: Sink>(out: &mut K, stamp: u64, wire: u32, body: &[u8]) -> Result<(), PutFault>
-    requires captured { length body.now ≤ 262144 }
+    requires captured { length body.now ≤ MAX_CAP }
     requires wire { length body.now ≤ wire }
     requires stamp { stamp ≤ 4294967295999999999 }
 
