@@ -14,7 +14,7 @@ const FRAME: [u8; 60] = [
 ];
 
 /// How the numbers of a capture are written: the order of their bytes, and the unit of a record's fraction.
-#[derive(Clone, Copy, Debug)]
+#[derive(Clone, Copy)]
 pub struct Form {
     pub big: bool,
     pub micros: bool,
@@ -46,7 +46,7 @@ pub const FORMS: [Form; 4] = [
 /// A record of a capture. Its body is the frame of 60 bytes with this code point, this last byte of its address and
 /// this last byte of its ethertype, and a tag before that where it is tagged, cut or lengthened with zero bytes to
 /// `cap`; its total length is what follows the ethertype.
-#[derive(Clone, Copy, Debug)]
+#[derive(Clone, Copy)]
 pub struct Rec {
     pub seconds: u32,
     pub nanos: u32,
@@ -76,7 +76,7 @@ pub fn frame(nanos: u32) -> Rec {
 }
 
 /// What an input holds.
-#[derive(Clone, Copy, Debug)]
+#[derive(Clone, Copy)]
 pub enum Input<'a> {
     /// There is no such file.
     Absent,
@@ -86,16 +86,12 @@ pub enum Input<'a> {
     Capture(Form, &'a [Rec], usize),
 }
 
-/// The bytes of an input; none where it is absent.
-pub fn bytes_of<R: Abort + AllocGlobal>(rt: &R, input: Input<'_>) -> Vec<u8> {
+/// The bytes of an input, if it is there.
+pub fn bytes_of<R: Abort + AllocGlobal>(rt: &R, input: Input<'_>) -> Option<Vec<u8>> {
     match input {
-        Input::Absent => Vec::new(rt.alloc()),
-        Input::Raw(bytes, frames) => raw(rt, bytes, frames),
-        Input::Capture(form, records, less) => {
-            let mut bytes = capture(rt, form, records);
-            bytes.truncate(bytes.len().saturating_sub(less));
-            bytes
-        }
+        Input::Absent => None,
+        Input::Raw(bytes, frames) => Some(raw(rt, bytes, frames)),
+        Input::Capture(form, records, less) => Some(capture(rt, form, records, less)),
     }
 }
 
@@ -116,13 +112,14 @@ pub fn output<R: Abort + AllocGlobal>(rt: &R, records: &[Rec]) -> Vec<u8> {
     bytes
 }
 
-/// A capture of these records, in this form.
-pub fn capture<R: Abort + AllocGlobal>(rt: &R, form: Form, records: &[Rec]) -> Vec<u8> {
+// A capture of these records, in this form, but for so many bytes at its end.
+fn capture<R: Abort + AllocGlobal>(rt: &R, form: Form, records: &[Rec], less: usize) -> Vec<u8> {
     let mut bytes = Vec::new(rt.alloc());
     put_header(rt, &mut bytes, form);
     for record in records {
         put_record(rt, &mut bytes, form, record);
     }
+    bytes.truncate(bytes.len().saturating_sub(less));
     bytes
 }
 
@@ -139,24 +136,15 @@ fn put_number<R: Abort>(rt: &R, bytes: &mut Vec<u8>, form: Form, number: u32) {
     put(rt, bytes, &text);
 }
 
-// The version 2.4 is two numbers of two bytes.
+// The version 2.4 is two numbers of two bytes, here put as one.
 fn put_header<R: Abort>(rt: &R, bytes: &mut Vec<u8>, form: Form) {
     let magic = if form.micros {
         0xa1b2_c3d4
     } else {
         0xa1b2_3c4d
     };
-    put_number(rt, bytes, form, magic);
-    put(
-        rt,
-        bytes,
-        if form.big {
-            &[0, 2, 0, 4]
-        } else {
-            &[2, 0, 4, 0]
-        },
-    );
-    for number in [0, 0, 65_535, 1] {
+    let version = if form.big { 0x0002_0004 } else { 0x0004_0002 };
+    for number in [magic, version, 0, 0, 65_535, 1] {
         put_number(rt, bytes, form, number);
     }
 }
@@ -184,8 +172,8 @@ fn tagged(plain: &[u8; 60]) -> [u8; 60] {
     body
 }
 
-/// Adds a record to a capture of this form.
-pub fn put_record<R: Abort>(rt: &R, bytes: &mut Vec<u8>, form: Form, record: &Rec) {
+// Adds a record to a capture of this form.
+fn put_record<R: Abort>(rt: &R, bytes: &mut Vec<u8>, form: Form, record: &Rec) {
     let unit = if form.micros { 1000 } else { 1 };
     for number in [record.seconds, record.nanos / unit, record.cap, record.wire] {
         put_number(rt, bytes, form, number);
@@ -200,8 +188,12 @@ pub fn put_record<R: Abort>(rt: &R, bytes: &mut Vec<u8>, form: Form, record: &Re
 pub fn words_of<R: Abort + AllocGlobal>(rt: &R, line: &str) -> Vec<String> {
     let mut words = Vec::new(rt.alloc());
     for word in line.split(' ') {
-        let word = String::from_str(rt.alloc(), word).expect(rt, "memory");
-        words.push(word).expect(rt, "memory");
+        put_word(rt, &mut words, word);
     }
     words
+}
+
+fn put_word<R: Abort + AllocGlobal>(rt: &R, words: &mut Vec<String>, word: &str) {
+    let word = String::from_str(rt.alloc(), word).expect(rt, "memory");
+    words.push(word).expect(rt, "memory");
 }

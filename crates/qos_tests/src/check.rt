@@ -1,9 +1,9 @@
 //! Commands over files in memory, and what they come to.
-use crate::build::{HEADER, Input, Rec, bytes_of, output};
+use crate::build::{HEADER, Input, Rec, bytes_of, output, words_of};
 use crate::profiles::{Edit, profile};
-use crate::seen::{EMPTY, End, Seen, gather, run, same, says, wanted};
+use crate::seen::{EMPTY, End, run, same, says, wanted};
 use crate::text::report_of;
-use qos_io::{MemShelf, WholeSink};
+use qos_io::{MemShelf, Shelf, WholeSink};
 use std::process::Abort;
 use std::sync::Wait;
 use std::thread::Threads;
@@ -15,7 +15,10 @@ pub const WORDS: &str = "run --profile p --out o a.pcap";
 #[derive(Clone, Copy)]
 pub struct Row<'a> {
     pub note: &'a str,
+    pub words: &'a str,
     pub edits: &'a [Edit<'a>],
+    /// The whole profile; where it is not given, it is the base with the edits.
+    pub text: Option<&'a [u8]>,
     pub input: Input<'a>,
     pub end: End,
     pub outputs: [&'a [Rec]; 2],
@@ -26,92 +29,104 @@ pub struct Row<'a> {
 /// A capture of the header alone.
 pub const NONE: Row<'static> = Row {
     note: "the header alone",
+    words: WORDS,
     edits: &[],
+    text: None,
     input: Input::Raw(&HEADER, 0),
     end: EMPTY,
     outputs: [&[], &[]],
     report: None,
 };
 
-/// A shelf with this profile and this input.
-pub fn shelf_over<R: AllocGlobal + Abort>(rt: &R, profile: Vec<u8>, input: Vec<u8>) -> MemShelf {
-    let mut shelf = MemShelf::new(rt.alloc());
-    shelf.put_file("p", profile).expect(rt, "memory");
-    shelf.put_file("a.pcap", input).expect(rt, "memory");
-    shelf
+// The profile of a row.
+fn text_of<R: AllocGlobal + Abort>(rt: &R, row: &Row<'_>) -> Vec<u8> {
+    match row.text {
+        Some(text) => text.to_vec(rt.alloc()).expect(rt, "memory"),
+        None => profile(rt, row.edits),
+    }
+}
+
+fn put_file<R: Abort>(rt: &R, shelf: &mut MemShelf, name: &str, bytes: Vec<u8>) {
+    shelf.put_file(name, bytes).expect(rt, "memory");
+}
+
+/// Puts the input of a row on a shelf, if it is there.
+pub fn put_input<R: AllocGlobal + Abort>(rt: &R, shelf: &mut MemShelf, row: &Row<'_>) {
+    if let Some(bytes) = bytes_of(rt, row.input) {
+        put_file(rt, shelf, "a.pcap", bytes);
+    }
 }
 
 /// The shelf of a row.
 pub fn shelf_of<R: AllocGlobal + Abort>(rt: &R, row: &Row<'_>) -> MemShelf {
-    let text = profile(rt, row.edits);
-    if let Input::Absent = row.input {
-        let mut shelf = MemShelf::new(rt.alloc());
-        shelf.put_file("p", text).expect(rt, "memory");
-        return shelf;
-    }
-    shelf_over(rt, text, bytes_of(rt, row.input))
+    let mut shelf = MemShelf::new(rt.alloc());
+    put_file(rt, &mut shelf, "p", text_of(rt, row));
+    put_input(rt, &mut shelf, row);
+    shelf
 }
 
-/// Runs the words of the rows on a shelf, and compares how that ends and the report.
-pub fn ends_with<R: Threads + Wait + Sync + AllocGlobal + Abort>(
+/// The report of a row.
+pub fn reports<R: AllocGlobal + Abort>(rt: &R, said: &[u8], row: &Row<'_>) {
+    let report = report_of(rt, &wanted(&row.end));
+    let text = row.report.unwrap_or(report.as_str());
+    says(rt, said, text, row.note);
+}
+
+/// Runs a command on a shelf, and compares how that ends and the report with those of a row.
+pub fn ends_as<R: Threads + Wait + Sync + AllocGlobal + Abort, H: Shelf>(
     rt: &R,
-    shelf: &mut MemShelf,
-    expected: &Seen,
-    report: &str,
-    note: &str,
+    words: &[String],
+    shelf: &mut H,
+    row: &Row<'_>,
 ) {
     let mut said = WholeSink::new(rt.alloc());
-    let found = gather(&run(rt, WORDS, shelf, &mut said));
-    same(rt, &found, expected, note);
-    says(rt, said.bytes(), report, note);
+    let found = run(rt, words, shelf, &mut said);
+    same(rt, &found, &wanted(&row.end), row.note);
+    reports(rt, said.bytes(), row);
 }
 
-/// The same; the text of the report follows from the numbers.
-pub fn ends_so<R: Threads + Wait + Sync + AllocGlobal + Abort>(
-    rt: &R,
-    shelf: &mut MemShelf,
-    expected: &Seen,
-    note: &str,
-) {
-    let report = report_of(rt, expected);
-    ends_with(rt, shelf, expected, report.as_str(), note);
-}
-
-/// The file of this name is what the program writes of these records.
-pub fn holds<R: AllocGlobal + Abort>(
+// The file of this name is what the program writes of these records, if it is one of the outputs.
+fn holds<R: AllocGlobal + Abort>(
     rt: &R,
     shelf: &MemShelf,
     name: &str,
-    records: &[Rec],
+    records: Option<&[Rec]>,
     note: &str,
 ) {
-    let written = output(rt, records);
-    same(rt, &shelf.file(name), &Some(written.as_slice()), note);
-}
-
-/// There is no output of port 0 or port 1.
-pub fn holds_nothing<R: Abort>(rt: &R, shelf: &MemShelf, note: &str) {
-    same(rt, &shelf.file("o.0.pcap"), &None, note);
-    same(rt, &shelf.file("o.1.pcap"), &None, note);
-}
-
-/// The outputs of a row.
-pub fn wrote<R: AllocGlobal + Abort>(rt: &R, shelf: &MemShelf, row: &Row<'_>) {
-    holds(rt, shelf, "o.0.pcap", row.outputs[0], row.note);
-    if row.end.count > 1 {
-        holds(rt, shelf, "o.1.pcap", row.outputs[1], row.note);
-    } else {
-        same(rt, &shelf.file("o.1.pcap"), &None, row.note);
+    match records {
+        Some(records) => {
+            let written = output(rt, records);
+            same(rt, &shelf.file(name), &Some(written.as_slice()), note);
+        }
+        None => same(rt, &shelf.file(name), &None, note),
     }
+}
+
+/// The outputs of a row: there is one of each port.
+pub fn wrote<R: AllocGlobal + Abort>(rt: &R, shelf: &MemShelf, row: &Row<'_>) {
+    let [first, second] = row.outputs;
+    let (first, second) = match row.end.count {
+        0 => (None, None),
+        1 => (Some(first), None),
+        _ => (Some(first), Some(second)),
+    };
+    holds(rt, shelf, "o.0.pcap", first, row.note);
+    holds(rt, shelf, "o.1.pcap", second, row.note);
+}
+
+/// Runs the words of a row on a shelf.
+pub fn check_on<R: Threads + Wait + Sync + AllocGlobal + Abort>(
+    rt: &R,
+    shelf: &mut MemShelf,
+    row: &Row<'_>,
+) {
+    ends_as(rt, &words_of(rt, row.words), shelf, row);
+    wrote(rt, shelf, row);
 }
 
 /// Runs a row.
 pub fn check<R: Threads + Wait + Sync + AllocGlobal + Abort>(rt: &R, row: &Row<'_>) {
     let mut shelf = shelf_of(rt, row);
-    let expected = wanted(&row.end);
-    match row.report {
-        Some(report) => ends_with(rt, &mut shelf, &expected, report, row.note),
-        None => ends_so(rt, &mut shelf, &expected, row.note),
-    }
-    wrote(rt, &shelf, row);
+    check_on(rt, &mut shelf, row);
+    drop(shelf);
 }

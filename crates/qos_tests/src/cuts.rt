@@ -1,8 +1,8 @@
 //! A capture that is cut at each byte.
-use crate::build::{PLAIN, Rec, capture, frame};
-use crate::check::{ends_so, holds, shelf_over};
-use crate::profiles::{DRAINS, profile};
-use crate::seen::{EMPTY, End, PortNumbers, wanted};
+use crate::build::{FIRST, Input, PLAIN, Rec, frame};
+use crate::check::{NONE, Row, check};
+use crate::profiles::DRAINS;
+use crate::seen::{EMPTY, End, PortNumbers};
 use qos_main::{PcapFault, Stop};
 use std::process::Abort;
 use std::sync::Wait;
@@ -40,17 +40,16 @@ fn end_of(len: usize, whole: usize) -> End {
 }
 
 fn check_cut<R: Threads + Wait + Sync + AllocGlobal + Abort>(rt: &R, len: usize, sent: &[Rec; 3]) {
-    let mut bytes = capture(rt, PLAIN, &[frame(0); 3]);
-    bytes.truncate(len);
     let whole = (len.saturating_sub(24) / 76).min(3);
-    let mut shelf = shelf_over(rt, profile(rt, &[DRAINS]), bytes);
-    ends_so(
-        rt,
-        &mut shelf,
-        &wanted(&end_of(len, whole)),
-        "a cut capture",
-    );
-    holds(rt, &shelf, "o.0.pcap", &sent[..whole], "a cut capture");
+    let row = Row {
+        note: "a cut capture",
+        edits: &[DRAINS],
+        input: Input::Capture(PLAIN, &[FIRST; 3], 252usize.saturating_sub(len)),
+        end: end_of(len, whole),
+        outputs: [&sent[..whole], &[]],
+        ..NONE
+    };
+    check(rt, &row);
 }
 
 #[test]

@@ -1,8 +1,8 @@
 //! A run over 4,096 pipes.
-use crate::build::{FIRST, PLAIN, Rec, capture};
-use crate::check::{ends_with, holds, shelf_over};
+use crate::build::{FIRST, Input, PLAIN, Rec};
+use crate::check::{NONE, Row, check};
 use crate::reports;
-use crate::seen::{EMPTY, End, wanted};
+use crate::seen::{EMPTY, End};
 use std::process::Abort;
 
 // As many places in queues as a profile may have: 4,096 pipes with 16 queues of 64. The section `[red]` is skipped.
@@ -54,19 +54,17 @@ fn frames<R: AllocGlobal + Abort>(rt: &R) -> Vec<Rec> {
 #[test]
 fn each_packet_goes_at_its_arrival(rt: HostRuntime) {
     let frames = frames(&rt);
-    let text = MANY_PIPES.as_bytes().to_vec(rt.alloc());
-    let text = text.expect(&rt, "memory");
-    let mut shelf = shelf_over(&rt, text, capture(&rt, PLAIN, &frames));
-    let end = End {
-        first: [1000, 1000, 0, 0, 0, 1000, 1_248_750_124],
-        ..EMPTY
+    let row = Row {
+        note: "4,096 pipes",
+        text: Some(MANY_PIPES.as_bytes()),
+        input: Input::Capture(PLAIN, &frames, 0),
+        end: End {
+            first: [1000, 1000, 0, 0, 0, 1000, 1_248_750_124],
+            ..EMPTY
+        },
+        outputs: [&frames, &[]],
+        report: Some(reports::MANY_PIPES),
+        ..NONE
     };
-    ends_with(
-        &rt,
-        &mut shelf,
-        &wanted(&end),
-        reports::MANY_PIPES,
-        "4,096 pipes",
-    );
-    holds(&rt, &shelf, "o.0.pcap", &frames, "4,096 pipes");
+    check(&rt, &row);
 }

@@ -1,13 +1,12 @@
 //! Runs over a profile with meters, as rows.
-use crate::build::{FIRST, Input, PLAIN, Rec};
-use crate::check::{NONE, Row, WORDS, shelf_of, wrote};
+use crate::build::{FIRST, Input, PLAIN, Rec, words_of};
+use crate::check::{NONE, Row, reports, shelf_of, wrote};
 use crate::profiles::{CODE, METERED, RULE, SECOND_PORT};
 use crate::reports;
-use crate::seen::{EMPTY, End, gather, run, same, says, wanted};
-use crate::text::report_of;
+use crate::seen::{EMPTY, End, gather, same, wanted};
 use qos_base::Colour::{self, Green, Red, Yellow};
-use qos_io::WholeSink;
-use qos_main::{Ended, Entry, Mark, MeterLog, PcapFault, PortEnd, Stop};
+use qos_io::{MemShelf, OpenGate, WholeSink};
+use qos_main::{Ended, Entry, Mark, MeterLog, PcapFault, PortEnd, Stop, qos_top};
 use std::process::Abort;
 use std::sync::Wait;
 use std::thread::Threads;
@@ -18,9 +17,6 @@ type Marked = (u32, u64, u32, Colour, Colour);
 
 // A packet that arrived: the place of its record, and its colour.
 type Arrived = (u32, Colour);
-
-// The most marks of a meter, and packets of a port.
-const MOST: usize = 8;
 
 // A run, the marks of each meter, and the packets that arrived at each port.
 #[derive(Clone, Copy)]
@@ -47,6 +43,7 @@ const FOUR_ROW: Row<'static> = Row {
     end: FOUR_END,
     outputs: [&[FIRST], &[]],
     report: Some(reports::POLICED),
+    ..NONE
 };
 
 const FOUR: Metered<'static> = Metered {
@@ -63,10 +60,12 @@ const FOUR: Metered<'static> = Metered {
     arrived: [&[(0, Green), (1, Yellow)], &[]],
 };
 
+static POLICED: Metered<'static> = FOUR;
+
 // To 10.0.0.200.
 const FAR: Rec = Rec { host: 200, ..FIRST };
 
-const SHARED: [Metered<'static>; 2] = [
+static SHARED: [Metered<'static>; 2] = [
     // 92 bytes are green and 46 yellow, whichever port they go to. Being blind, the meter takes the red of port 1's
     // rule for green.
     Metered {
@@ -173,7 +172,7 @@ const MEDIUM: Rec = Rec { dscp: 12, ..FIRST };
 
 const HIGH: Rec = Rec { dscp: 14, ..FIRST };
 
-const COLOURED: [Metered<'static>; 2] = [
+static COLOURED: [Metered<'static>; 2] = [
     // 92 bytes of C and 92 of E: the yellow one takes 46 of E, the green ones take C, and the next takes the rest of E.
     Metered {
         row: Row {
@@ -253,7 +252,7 @@ const TAGGED: Rec = Rec {
     ..FIRST
 };
 
-const COUNTED: [Metered<'static>; 2] = [
+static COUNTED: [Metered<'static>; 2] = [
     // What is counted is the length on the line without 14 bytes of header, and 4 of a tag: 42, 86 and 46.
     Metered {
         row: Row {
@@ -343,7 +342,7 @@ ebs = 46",
     },
 ];
 
-const TIMED: [Metered<'static>; 3] = [
+static TIMED: [Metered<'static>; 3] = [
     // 46 bytes are earned in each 1,000 ns, and no more are kept. At 1,000 and at 0, after 2,000, nothing is earned.
     Metered {
         row: Row {
@@ -535,7 +534,7 @@ ebs = 46",
 // A meter that has no packet.
 const UNUSED: End = End { meters: 1, ..EMPTY };
 
-const STOPPED: [Metered<'static>; 3] = [
+static STOPPED: [Metered<'static>; 3] = [
     Metered {
         row: Row {
             edits: &[METERED],
@@ -580,100 +579,96 @@ const STOPPED: [Metered<'static>; 3] = [
     },
 ];
 
-// What is seen of the meters of a run, and of the packets that arrived.
-#[derive(Clone, Copy, Debug, PartialEq, Eq)]
-struct Coloured {
-    marks: [[Option<Mark>; MOST]; 2],
-    arrived: [[Option<Arrived>; MOST]; 2],
-}
-
-fn marks_of(log: Option<&MeterLog>) -> [Option<Mark>; MOST] {
-    let mut marks = [None; MOST];
-    if let Some(log) = log {
-        for (place, mark) in marks.iter_mut().zip(log.marks.as_slice()) {
-            *place = Some(*mark);
-        }
+// The mark of this turn of a meter in a run over one input.
+fn mark_of(meter: u32, turn: usize, mark: &Marked) -> Mark {
+    let (index, at, len, pre, colour) = *mark;
+    Mark {
+        meter,
+        turn: turn as u64,
+        input: 0,
+        index,
+        at,
+        len,
+        pre,
+        colour,
     }
-    marks
 }
 
-fn arrived_at(port: Option<&PortEnd>) -> [Option<Arrived>; MOST] {
-    let mut arrived = [None; MOST];
+// The log of a meter has these marks; one that is not there has none.
+fn compare_marks<R: Abort>(
+    rt: &R,
+    log: Option<&MeterLog>,
+    meter: u32,
+    marks: &[Marked],
+    note: &str,
+) {
+    let found = match log {
+        Some(log) => log.marks.as_slice(),
+        None => &[],
+    };
+    same(rt, &found.len(), &marks.len(), note);
+    for (turn, mark) in marks.iter().enumerate() {
+        let mark = mark_of(meter, turn, mark);
+        same(rt, &found.get(turn), &Some(&mark), note);
+    }
+}
+
+// Compares a packet that arrived, and counts it.
+fn compare_packet<R: Abort>(rt: &R, entry: &Entry, packet: Option<&Arrived>, note: &str) -> usize {
+    let Entry::Arrive(pkt) = entry else {
+        return 0;
+    };
+    same(rt, &Some(&(pkt.index, pkt.colour)), &packet, note);
+    1
+}
+
+// These packets arrived at a port; at one that is not there, none.
+fn compare_arrived<R: Abort>(rt: &R, port: Option<&PortEnd>, packets: &[Arrived], note: &str) {
     let mut n = 0usize;
     if let Some(port) = port {
         for entry in port.journal.as_slice() {
-            if let Entry::Arrive(pkt) = entry {
-                if let Some(place) = arrived.get_mut(n) {
-                    *place = Some((pkt.index, pkt.colour));
-                }
-                n = n.saturating_add(1);
-            }
+            n = n.saturating_add(compare_packet(rt, entry, packets.get(n), note));
         }
     }
-    arrived
+    same(rt, &n, &packets.len(), note);
 }
 
-fn colours_of(ended: &Ended) -> Coloured {
+fn compare<R: Abort>(rt: &R, ended: &Ended, row: &Metered<'_>) {
+    let note = row.row.note;
+    same(rt, &gather(ended), &wanted(&row.row.end), note);
     let (logs, ports) = (ended.meters.as_slice(), ended.ports.as_slice());
-    let marks = [marks_of(logs.first()), marks_of(logs.get(1))];
-    let arrived = [arrived_at(ports.first()), arrived_at(ports.get(1))];
-    Coloured { marks, arrived }
+    compare_marks(rt, logs.first(), 0, row.marks[0], note);
+    compare_marks(rt, logs.get(1), 1, row.marks[1], note);
+    compare_arrived(rt, ports.first(), row.arrived[0], note);
+    compare_arrived(rt, ports.get(1), row.arrived[1], note);
 }
 
-// The marks of the meter of a number in a run over one input.
-fn marks_for(meter: u32, marks: &[Marked]) -> [Option<Mark>; MOST] {
-    let mut places = [None; MOST];
-    for ((turn, place), mark) in places.iter_mut().enumerate().zip(marks) {
-        let (index, at, len, pre, colour) = *mark;
-        *place = Some(Mark {
-            meter,
-            turn: turn as u64,
-            input: 0,
-            index,
-            at,
-            len,
-            pre,
-            colour,
-        });
-    }
-    places
-}
-
-fn arrived_for(arrived: &[Arrived]) -> [Option<Arrived>; MOST] {
-    let mut places = [None; MOST];
-    for (place, packet) in places.iter_mut().zip(arrived) {
-        *place = Some(*packet);
-    }
-    places
-}
-
-fn colours_for(row: &Metered<'_>) -> Coloured {
-    let marks = [marks_for(0, row.marks[0]), marks_for(1, row.marks[1])];
-    let arrived = [arrived_for(row.arrived[0]), arrived_for(row.arrived[1])];
-    Coloured { marks, arrived }
-}
-
-// Compares what a row ended with, and its report.
-fn compare<R: AllocGlobal + Abort>(rt: &R, ended: &Ended, said: &[u8], row: &Metered<'_>) {
-    let (note, expected) = (row.row.note, wanted(&row.row.end));
-    same(rt, &gather(ended), &expected, note);
-    same(rt, &colours_of(ended), &colours_for(row), note);
-    let report = report_of(rt, &expected);
-    let text = row.row.report.unwrap_or(report.as_str());
-    says(rt, said, text, note);
+// Runs a row on its shelf, and compares what that ended with, and the report.
+fn check_on<R: Threads + Wait + Sync + AllocGlobal + Abort>(
+    rt: &R,
+    shelf: &mut MemShelf,
+    row: &Metered<'_>,
+) {
+    let words = words_of(rt, row.row.words);
+    let mut said = WholeSink::new(rt.alloc());
+    compare(
+        rt,
+        &qos_top(rt, rt.alloc(), &words, shelf, &mut said, &OpenGate),
+        row,
+    );
+    reports(rt, said.bytes(), &row.row);
 }
 
 fn check<R: Threads + Wait + Sync + AllocGlobal + Abort>(rt: &R, row: &Metered<'_>) {
     let mut shelf = shelf_of(rt, &row.row);
-    let mut said = WholeSink::new(rt.alloc());
-    let ended = run(rt, WORDS, &mut shelf, &mut said);
-    compare(rt, &ended, said.bytes(), row);
+    check_on(rt, &mut shelf, row);
     wrote(rt, &shelf, &row.row);
+    drop(shelf);
 }
 
 #[test]
 fn red_is_policed(rt: HostRuntime) {
-    check(&rt, &FOUR);
+    check(&rt, &POLICED);
 }
 
 #[test]

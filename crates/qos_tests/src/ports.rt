@@ -21,7 +21,7 @@ const FAR_LATER: Rec = Rec {
 };
 
 // Each frame goes at its own arrival but for the second of two at one moment, which no drain follows.
-const ROWS: [Row<'static>; 4] = [
+static ROWS: [Row<'static>; 4] = [
     Row {
         note: "by the prefix of the address",
         edits: &[SECOND_PORT, SECOND_RULE, BY_ADDRESS],

@@ -121,10 +121,8 @@ fn put_line<R: Abort>(rt: &R, text: &mut Vec<u8>, line: &str) {
 pub fn profile<R: AllocGlobal + Abort>(rt: &R, edits: &[Edit<'_>]) -> Vec<u8> {
     let mut text = Vec::new(rt.alloc());
     for (number, line) in BASE.lines().enumerate() {
-        match edit_of(number.saturating_add(1), edits) {
-            Some(edit) => put_line(rt, &mut text, edit),
-            None => put_line(rt, &mut text, line),
-        }
+        let edit = edit_of(number.saturating_add(1), edits);
+        put_line(rt, &mut text, edit.unwrap_or(line));
     }
     text
 }

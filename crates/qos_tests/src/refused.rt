@@ -1,89 +1,105 @@
 //! Commands that are refused before anything is created.
-use crate::build::{HEADER, Input, bytes_of};
-use crate::check::{WORDS, ends_so, ends_with, holds, holds_nothing, shelf_over};
-use crate::profiles::{CODE, Edit, METERED, PIPE, PIPES, QUEUES, profile, profile_of_size};
-use crate::seen::{EMPTY, Seen, gather, nothing, run, run_words, same, says, wanted};
-use qos_io::{MemShelf, WholeShelf, WholeSink};
+use crate::build::{Input, words_of};
+use crate::check::{NONE, Row, WORDS, check, check_on, ends_as, put_input};
+use crate::profiles::{CODE, METERED, PIPE, PIPES, QUEUES, profile_of_size};
+use crate::seen::{EMPTY, End, same};
+use qos_io::{MemShelf, WholeShelf};
 use qos_main::{FaultKind, Note, ProfileFault};
-use std::process::Abort;
-use std::sync::Wait;
-use std::thread::Threads;
 
-const USAGE: &str = "usage\nstatus 2\n";
+// Nothing is scheduled.
+const UNSCHEDULED: End = End { count: 0, ..EMPTY };
 
-const UNREAD: &str = "profile read fault\nstatus 4\n";
-
-// Nothing is scheduled and nothing created, and this is reported.
-fn is_refused<R: Threads + Wait + Sync + AllocGlobal + Abort>(
-    rt: &R,
-    shelf: &mut MemShelf,
-    expected: &Seen,
-    report: &str,
-    note: &str,
-) {
-    ends_with(rt, shelf, expected, report, note);
-    holds_nothing(rt, shelf, note);
-}
-
-fn check_words<R: Threads + Wait + Sync + AllocGlobal + Abort>(rt: &R, words: &str) {
-    let mut shelf = shelf_over(rt, profile(rt, &[]), bytes_of(rt, Input::Raw(&HEADER, 0)));
-    let mut said = WholeSink::new(rt.alloc());
-    let found = gather(&run(rt, words, &mut shelf, &mut said));
-    same(rt, &found, &nothing(2, Note::Nothing), words);
-    says(rt, said.bytes(), USAGE, words);
-    holds_nothing(rt, &shelf, words);
-}
+const USAGE: Row<'static> = Row {
+    end: End {
+        status: 2,
+        ..UNSCHEDULED
+    },
+    report: Some("usage\nstatus 2\n"),
+    ..NONE
+};
 
 // A line without a blank is one word: the first one here is empty.
+static WORDLESS: [Row<'static>; 5] = [
+    Row {
+        note: "an empty word",
+        words: "",
+        ..USAGE
+    },
+    Row {
+        note: "no number of cores",
+        words: "run --cores 0 --profile p --out o a",
+        ..USAGE
+    },
+    Row {
+        note: "help",
+        words: "run --help",
+        ..USAGE
+    },
+    Row {
+        note: "two outputs",
+        words: "run --profile p --out o --out o a.pcap",
+        ..USAGE
+    },
+    Row {
+        note: "an input of an output's name",
+        words: "run --profile p --out o o.3.pcap",
+        ..USAGE
+    },
+];
+
 #[test]
 fn words_that_ask_for_nothing(rt: HostRuntime) {
-    for words in [
-        "",
-        "run --cores 0 --profile p --out o a",
-        "run --help",
-        "run --profile p --out o --out o a.pcap",
-        "run --profile p --out o o.3.pcap",
-    ] {
-        check_words(&rt, words);
+    for row in &WORDLESS {
+        check(&rt, row);
     }
 }
 
 #[test]
 fn no_words(rt: HostRuntime) {
-    let mut shelf = MemShelf::new(rt.alloc());
-    let mut said = WholeSink::new(rt.alloc());
-    let found = gather(&run_words(&rt, &[], &mut shelf, &mut said));
-    same(&rt, &found, &nothing(2, Note::Nothing), "no words");
-    says(&rt, said.bytes(), USAGE, "no words");
+    let row = Row {
+        note: "no words",
+        ..USAGE
+    };
+    ends_as(&rt, &[], &mut MemShelf::new(rt.alloc()), &row);
 }
 
-// A profile's fault.
-fn faulty(line: u32, kind: FaultKind, total: u64) -> Seen {
-    nothing(3, Note::Profile(ProfileFault { line, kind, total }))
-}
+// The profile has a fault.
+const FAULTY: End = End {
+    status: 3,
+    ..UNSCHEDULED
+};
 
-fn check_text<R: Threads + Wait + Sync + AllocGlobal + Abort>(
-    rt: &R,
-    text: Vec<u8>,
-    expected: &Seen,
-    report: &str,
-    note: &str,
-) {
-    let mut shelf = shelf_over(rt, text, bytes_of(rt, Input::Raw(&HEADER, 0)));
-    is_refused(rt, &mut shelf, expected, report, note);
-}
+// A profile that has no pipes.
+const NO_PIPES: Row<'static> = Row {
+    edits: &[(PIPES, "pipes = 0")],
+    end: End {
+        note: Note::Profile(ProfileFault {
+            line: 13,
+            kind: FaultKind::OutOfRange,
+            total: 0,
+        }),
+        ..FAULTY
+    },
+    report: Some("profile line 13 fault 5\nstatus 3\n"),
+    ..NONE
+};
 
-// A profile that is none: the line, the kind and the total of its fault, and the report.
-struct Refusal<'a> {
-    note: &'a str,
-    edits: &'a [Edit<'a>],
-    fault: (u32, FaultKind, u64),
-    report: &'a str,
-}
+const UNKNOWN_KEY: Row<'static> = Row {
+    end: End {
+        note: Note::Profile(ProfileFault {
+            line: 2,
+            kind: FaultKind::UnknownKey,
+            total: 0,
+        }),
+        ..FAULTY
+    },
+    report: Some("profile line 2 fault 3\nstatus 3\n"),
+    ..NONE
+};
 
-const REFUSALS: [Refusal<'static>; 4] = [
+static REFUSALS: [Row<'static>; 6] = [
     // 13 sizes of 65, of which the last is that of four queues, and 4,096 pipes: 4,259,840 places, above 4,194,304.
-    Refusal {
+    Row {
         note: "too many places",
         edits: &[
             (PIPES, "pipes = 4096"),
@@ -93,98 +109,141 @@ const REFUSALS: [Refusal<'static>; 4] = [
             ),
             (PIPE, "pipe 0-4095 = 0"),
         ],
-        fault: (0, FaultKind::TooLarge, 4_259_840),
-        report: "profile line 0 fault 9\nstatus 3\n",
+        end: End {
+            note: Note::Profile(ProfileFault {
+                line: 0,
+                kind: FaultKind::TooLarge,
+                total: 4_259_840,
+            }),
+            ..FAULTY
+        },
+        report: Some("profile line 0 fault 9\nstatus 3\n"),
+        ..NONE
     },
-    Refusal {
+    Row {
         note: "an unknown key",
         edits: &[(2, "line rat = 5")],
-        fault: (2, FaultKind::UnknownKey, 0),
-        report: "profile line 2 fault 3\nstatus 3\n",
+        ..UNKNOWN_KEY
     },
-    Refusal {
+    Row {
+        note: "a profile of two lines",
+        text: Some(b"[port 0]\nline rat = 5"),
+        ..UNKNOWN_KEY
+    },
+    Row {
         note: "a meter in use, and a fault",
         edits: &[METERED, (PIPES, "pipes = 0")],
-        fault: (13, FaultKind::OutOfRange, 0),
-        report: "profile line 13 fault 5\nstatus 3\n",
+        ..NO_PIPES
     },
-    Refusal {
+    Row {
         note: "a meter that is not there",
         edits: &[(CODE, "code = dscp\nmeter = q")],
-        fault: (27, FaultKind::NoSuchName, 0),
-        report: "profile line 27 fault 8\nstatus 3\n",
+        end: End {
+            note: Note::Profile(ProfileFault {
+                line: 27,
+                kind: FaultKind::NoSuchName,
+                total: 0,
+            }),
+            ..FAULTY
+        },
+        report: Some("profile line 27 fault 8\nstatus 3\n"),
+        ..NONE
+    },
+    // A profile that is refused ends the command before a missing capture is noticed.
+    Row {
+        note: "no capture",
+        input: Input::Absent,
+        ..NO_PIPES
     },
 ];
-
-fn check_refusal<R: Threads + Wait + Sync + AllocGlobal + Abort>(rt: &R, row: &Refusal<'_>) {
-    let (line, kind, total) = row.fault;
-    let expected = faulty(line, kind, total);
-    check_text(rt, profile(rt, row.edits), &expected, row.report, row.note);
-}
 
 #[test]
 fn profiles_are_refused(rt: HostRuntime) {
     for row in &REFUSALS {
-        check_refusal(&rt, row);
+        check(&rt, row);
     }
-}
-
-#[test]
-fn a_profile_of_two_lines(rt: HostRuntime) {
-    let text = b"[port 0]\nline rat = 5".to_vec(rt.alloc());
-    let text = text.expect(&rt, "memory");
-    let expected = faulty(2, FaultKind::UnknownKey, 0);
-    let report = "profile line 2 fault 3\nstatus 3\n";
-    check_text(&rt, text, &expected, report, "two lines");
 }
 
 #[test]
 fn the_longest_profile(rt: HostRuntime) {
     let text = profile_of_size(&rt, 1_048_576);
-    let mut shelf = shelf_over(&rt, text, bytes_of(&rt, Input::Raw(&HEADER, 0)));
-    ends_so(&rt, &mut shelf, &wanted(&EMPTY), "1,048,576 bytes");
-    holds(&rt, &shelf, "o.0.pcap", &[], "1,048,576 bytes");
+    let row = Row {
+        note: "1,048,576 bytes",
+        text: Some(&text),
+        ..NONE
+    };
+    check(&rt, &row);
 }
 
 #[test]
 fn a_profile_that_is_too_long(rt: HostRuntime) {
     let text = profile_of_size(&rt, 1_048_577);
-    let expected = faulty(0, FaultKind::TooLarge, 1_048_577);
-    let report = "profile line 0 fault 9\nstatus 3\n";
-    check_text(&rt, text, &expected, report, "1,048,577 bytes");
+    let row = Row {
+        note: "1,048,577 bytes",
+        text: Some(&text),
+        end: End {
+            note: Note::Profile(ProfileFault {
+                line: 0,
+                kind: FaultKind::TooLarge,
+                total: 1_048_577,
+            }),
+            ..FAULTY
+        },
+        report: Some("profile line 0 fault 9\nstatus 3\n"),
+        ..NONE
+    };
+    check(&rt, &row);
 }
+
+const NO_PROFILE: Row<'static> = Row {
+    end: End {
+        status: 4,
+        note: Note::ProfileRead,
+        ..UNSCHEDULED
+    },
+    report: Some("profile read fault\nstatus 4\n"),
+    ..NONE
+};
+
+static UNREAD: [Row<'static>; 2] = [
+    Row {
+        note: "neither is there",
+        input: Input::Absent,
+        ..NO_PROFILE
+    },
+    Row {
+        note: "no profile",
+        ..NO_PROFILE
+    },
+];
 
 // A missing profile ends the command, whether the capture is there or not.
 #[test]
 fn profiles_that_are_missing(rt: HostRuntime) {
-    let expected = nothing(4, Note::ProfileRead);
     let mut shelf = MemShelf::new(rt.alloc());
-    is_refused(&rt, &mut shelf, &expected, UNREAD, "neither is there");
-    let input = bytes_of(&rt, Input::Raw(&HEADER, 0));
-    shelf.put_file("a.pcap", input).expect(&rt, "memory");
-    is_refused(&rt, &mut shelf, &expected, UNREAD, "no profile");
-}
-
-// A profile that is refused ends the command before a missing capture is noticed.
-#[test]
-fn a_capture_that_is_missing(rt: HostRuntime) {
-    let mut shelf = MemShelf::new(rt.alloc());
-    let text = profile(&rt, &[(PIPES, "pipes = 0")]);
-    shelf.put_file("p", text).expect(&rt, "memory");
-    let expected = faulty(13, FaultKind::OutOfRange, 0);
-    let report = "profile line 13 fault 5\nstatus 3\n";
-    is_refused(&rt, &mut shelf, &expected, report, "no capture");
+    for row in &UNREAD {
+        put_input(&rt, &mut shelf, row);
+        check_on(&rt, &mut shelf, row);
+    }
 }
 
 // A name of no file opens as an empty one where it is sure to read, and an empty text is no profile.
 #[test]
 fn a_profile_that_is_empty(rt: HostRuntime) {
+    let row = Row {
+        note: "an empty profile",
+        end: End {
+            note: Note::Profile(ProfileFault {
+                line: 0,
+                kind: FaultKind::Missing,
+                total: 0,
+            }),
+            ..FAULTY
+        },
+        report: Some("profile line 0 fault 7\nstatus 3\n"),
+        ..NONE
+    };
     let mut shelf = WholeShelf::new(rt.alloc());
-    let mut said = WholeSink::new(rt.alloc());
-    let found = gather(&run(&rt, WORDS, &mut shelf, &mut said));
-    let expected = faulty(0, FaultKind::Missing, 0);
-    same(&rt, &found, &expected, "an empty profile");
-    let report = "profile line 0 fault 7\nstatus 3\n";
-    says(&rt, said.bytes(), report, "an empty profile");
-    same(&rt, &shelf.file("o.0.pcap"), &None, "an empty profile");
+    ends_as(&rt, &words_of(&rt, WORDS), &mut shelf, &row);
+    same(&rt, &shelf.file("o.0.pcap"), &None, row.note);
 }

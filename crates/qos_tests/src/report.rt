@@ -1,11 +1,11 @@
 //! Commands whose report is refused.
 ghost use Rattle.std.specs.Prelude.{None};
 
-use crate::build::{FIRST, Input, PLAIN};
+use crate::build::{FIRST, Input, PLAIN, words_of};
 use crate::check::{NONE, Row, WORDS, shelf_of, wrote};
 use crate::profiles::DRAINS;
-use crate::seen::{EMPTY, End, gather, run, same, says, wanted};
-use qos_io::{PutFault, Sink};
+use crate::seen::{EMPTY, End, Seen, run, same, says, wanted};
+use qos_io::{MemShelf, PutFault, Sink};
 use qos_main::{PcapFault, Stop, put_memory};
 use std::process::Abort;
 use std::sync::Wait;
@@ -78,12 +78,23 @@ const TORN: Row<'static> = Row {
 
 // A run, what its report is refused for, and its status then: a failure changes that of a good run alone, and want of
 // memory each.
-const ROWS: [(&str, Row<'static>, PutFault, u8); 4] = [
+static ROWS: [(&str, Row<'static>, PutFault, u8); 4] = [
     ("fails", FINE, PutFault::Failed, 5),
     ("fails behind a fault", TORN, PutFault::Failed, 6),
     ("no memory", FINE, PutFault::NoMemory, 7),
     ("no memory behind a fault", TORN, PutFault::NoMemory, 7),
 ];
+
+// Runs the words of the rows with a report that is refused, and counts the puts.
+fn refused<R: Threads + Wait + Sync + AllocGlobal + Abort>(
+    rt: &R,
+    shelf: &mut MemShelf,
+    fault: PutFault,
+) -> (Seen, u64) {
+    let mut said = new_said(rt, Some(fault));
+    let found = run(rt, &words_of(rt, WORDS), shelf, &mut said);
+    (found, said.puts)
+}
 
 // The report is put at once, and the run stays what it was.
 fn check<R: Threads + Wait + Sync + AllocGlobal + Abort>(
@@ -92,15 +103,15 @@ fn check<R: Threads + Wait + Sync + AllocGlobal + Abort>(
 ) {
     let (note, row, fault, status) = row;
     let mut shelf = shelf_of(rt, row);
-    let mut said = new_said(rt, Some(*fault));
-    let found = gather(&run(rt, WORDS, &mut shelf, &mut said));
-    let end = End {
+    let (found, puts) = refused(rt, &mut shelf, *fault);
+    let expected = Seen {
         status: *status,
-        ..row.end
+        ..wanted(&row.end)
     };
-    same(rt, &found, &wanted(&end), note);
-    same(rt, &said.puts, &1, note);
+    same(rt, &found, &expected, note);
+    same(rt, &puts, &1, note);
     wrote(rt, &shelf, row);
+    drop(shelf);
 }
 
 #[test]

@@ -1,10 +1,13 @@
 //! Runs over one port, as rows.
-use crate::build::{FIRST, FORMS, Input, PLAIN, Rec, capture, frame};
-use crate::check::{NONE, Row, check, ends_so, holds, shelf_over};
-use crate::profiles::{BUCKET_SIZE, CODE, DRAINS, Edit, QUEUES, SLOW, profile};
+use crate::build::{FIRST, FORMS, Form, Input, PLAIN, Rec, frame};
+use crate::check::{NONE, Row, check};
+use crate::profiles::{BUCKET_SIZE, CODE, DRAINS, Edit, QUEUES, SLOW};
 use crate::reports;
-use crate::seen::{EMPTY, End, wanted};
+use crate::seen::{EMPTY, End};
 use qos_main::{PcapFault, Stop};
+use std::process::Abort;
+use std::sync::Wait;
+use std::thread::Threads;
 
 // A record of 60 bytes with microseconds, big-endian, 1.5 seconds after the origin of the stamps.
 const BIG_MICROSECONDS: [u8; 40] = [
@@ -61,7 +64,7 @@ const ELEVEN: [Rec; 11] = [
 ];
 
 // A frame of 60 bytes costs 84, which is port time after the first.
-const SENT: [Row<'static>; 3] = [
+static SENT: [Row<'static>; 3] = [
     NONE,
     Row {
         note: "microseconds, big-endian",
@@ -106,7 +109,7 @@ const SENT: [Row<'static>; 3] = [
 ];
 
 // A bucket starts with half of its size.
-const BUCKETS: [Row<'static>; 5] = [
+static BUCKETS: [Row<'static>; 5] = [
     // The first goes at its arrival and leaves 916. The drain's first dequeue, at 84, sends ten and leaves 76. An idle
     // dequeue follows at 924, and 15 more at steps of 65,536 up to 983,964.
     Row {
@@ -190,7 +193,7 @@ const BUCKETS: [Row<'static>; 5] = [
 const IPV4: Edit<'static> = (CODE, "code = dscp\nproto = ipv4");
 
 // What is not admitted, and what is turned away.
-const LOST: [Row<'static>; 4] = [
+static LOST: [Row<'static>; 4] = [
     Row {
         note: "a record for each reason",
         edits: &[IPV4],
@@ -282,7 +285,7 @@ const OTHER_LINK: [u8; 24] = [
 // A capture that is no whole one: what came before its fault is scheduled.
 const TORN: End = End { status: 6, ..EMPTY };
 
-const STOPPED: [Row<'static>; 5] = [
+static STOPPED: [Row<'static>; 5] = [
     Row {
         note: "cut 10 bytes into the third body",
         edits: &[DRAINS],
@@ -368,17 +371,24 @@ fn inputs_stop(rt: HostRuntime) {
 }
 
 // Each frame goes at its arrival, which is a whole number of microseconds.
+fn check_form<R: Threads + Wait + Sync + AllocGlobal + Abort>(rt: &R, form: Form, records: &[Rec]) {
+    let row = Row {
+        note: "the four magic numbers",
+        input: Input::Capture(form, records, 0),
+        end: End {
+            first: [3, 3, 0, 0, 0, 3, 7084],
+            ..EMPTY
+        },
+        outputs: [records, &[]],
+        ..NONE
+    };
+    check(rt, &row);
+}
+
 #[test]
 fn each_form_gives_the_same_output(rt: HostRuntime) {
     let records = [frame(0), frame(5000), frame(7000)];
-    let expected = wanted(&End {
-        first: [3, 3, 0, 0, 0, 3, 7084],
-        ..EMPTY
-    });
     for form in FORMS {
-        let input = capture(&rt, form, &records);
-        let mut shelf = shelf_over(&rt, profile(&rt, &[]), input);
-        ends_so(&rt, &mut shelf, &expected, "the four magic numbers");
-        holds(&rt, &shelf, "o.0.pcap", &records, "the four magic numbers");
+        check_form(&rt, form, &records);
     }
 }

@@ -1,5 +1,4 @@
 //! What a command ended with, in one value that tests compare.
-use crate::build::words_of;
 use qos_base::Colour;
 use qos_io::{OpenGate, Shelf, Sink};
 use qos_main::{Ended, InputEnd, MeterLog, Note, PortEnd, Stop, qos_top};
@@ -15,7 +14,7 @@ pub type PortNumbers = [u64; 7];
 pub type MeterNumbers = [u64; 3];
 
 /// What a command ended with. Of ports and meters there are two at most; what stands for one that is not there is zero.
-#[derive(Clone, Copy, Debug, PartialEq, Eq)]
+#[derive(Clone, Copy, Debug, PartialEq)]
 pub struct Seen {
     pub status: u8,
     pub note: Note,
@@ -37,8 +36,9 @@ pub struct Seen {
 #[derive(Clone, Copy)]
 pub struct End {
     pub status: u8,
+    pub note: Note,
     pub stopped: Stop,
-    /// How many ports the profile has, at most two.
+    /// How many ports the profile has, at most two; none where nothing is scheduled.
     pub count: usize,
     pub first: PortNumbers,
     pub second: PortNumbers,
@@ -54,6 +54,7 @@ pub struct End {
 /// One port, no meter and no record.
 pub const EMPTY: End = End {
     status: 0,
+    note: Note::Nothing,
     stopped: Stop::End,
     count: 1,
     first: [0; 7],
@@ -65,8 +66,8 @@ pub const EMPTY: End = End {
     marked: [[0; 3]; 2],
 };
 
-/// Nothing was scheduled.
-pub fn nothing(status: u8, note: Note) -> Seen {
+// Nothing was scheduled.
+fn nothing(status: u8, note: Note) -> Seen {
     Seen {
         status,
         note,
@@ -87,13 +88,16 @@ fn entries(port: &PortNumbers) -> usize {
     port[0].saturating_add(port[5]) as usize
 }
 
-// The sums of the ports' numbers.
-fn sums(end: &End) -> PortNumbers {
-    let mut sums = end.first;
-    for (sum, more) in sums.iter_mut().zip(end.second) {
-        *sum = sum.saturating_add(more);
-    }
-    sums
+// The sums of the ports' numbers that a run's input has: arrived, sent, left, turned away and not put.
+fn sums(end: &End) -> [u64; 5] {
+    let (first, second) = (&end.first, &end.second);
+    [
+        first[0].saturating_add(second[0]),
+        first[1].saturating_add(second[1]),
+        first[2].saturating_add(second[2]),
+        first[3].saturating_add(second[3]),
+        first[4].saturating_add(second[4]),
+    ]
 }
 
 // How many records were read: those that arrived, and those that were lost before.
@@ -107,11 +111,14 @@ fn read(end: &End, arrived: u64) -> u64 {
 
 /// What is seen where a run comes to this.
 pub fn wanted(end: &End) -> Seen {
-    let [arrived, sent, left, tailfull, unwritten, _, _] = sums(end);
+    if end.count == 0 {
+        return nothing(end.status, end.note);
+    }
+    let [arrived, sent, left, tailfull, unwritten] = sums(end);
     let [unparsed, unmatched, oversize, too_long] = end.lost;
     Seen {
         status: end.status,
-        note: Note::Nothing,
+        note: end.note,
         lists: [end.count, 1, end.count, end.meters],
         write_faults: end.write_faults,
         entries: [entries(&end.first), entries(&end.second)],
@@ -132,7 +139,10 @@ pub fn wanted(end: &End) -> Seen {
     }
 }
 
-fn numbers(port: &PortEnd) -> PortNumbers {
+fn numbers(port: Option<&PortEnd>) -> PortNumbers {
+    let Some(port) = port else {
+        return [0; 7];
+    };
     let counts = port.counts;
     [
         counts.arrived,
@@ -145,18 +155,17 @@ fn numbers(port: &PortEnd) -> PortNumbers {
     ]
 }
 
-fn see_ports(seen: &mut Seen, ports: &[PortEnd]) {
-    if let Some(port) = ports.first() {
-        seen.ports[0] = numbers(port);
-        seen.entries[0] = port.journal.as_slice().len();
-    }
-    if let Some(port) = ports.get(1) {
-        seen.ports[1] = numbers(port);
-        seen.entries[1] = port.journal.as_slice().len();
+fn entries_of(port: Option<&PortEnd>) -> usize {
+    match port {
+        Some(port) => port.journal.as_slice().len(),
+        None => 0,
     }
 }
 
-fn marked(log: &MeterLog) -> MeterNumbers {
+fn marked(log: Option<&MeterLog>) -> MeterNumbers {
+    let Some(log) = log else {
+        return [0; 3];
+    };
     let (mut green, mut yellow, mut red) = (0u64, 0u64, 0u64);
     for mark in log.marks.as_slice() {
         match mark.colour {
@@ -166,12 +175,6 @@ fn marked(log: &MeterLog) -> MeterNumbers {
         }
     }
     [green, yellow, red]
-}
-
-fn see_meters(seen: &mut Seen, logs: &[MeterLog]) {
-    for (numbers, log) in seen.meters.iter_mut().zip(logs) {
-        *numbers = marked(log);
-    }
 }
 
 fn see_input(seen: &mut Seen, input: &InputEnd) {
@@ -188,8 +191,9 @@ pub fn gather(ended: &Ended) -> Seen {
     let mut seen = nothing(ended.status, ended.note);
     seen.lists = [ports.len(), inputs.len(), faults.len(), logs.len()];
     seen.write_faults = [faults.first() == Some(&true), faults.get(1) == Some(&true)];
-    see_ports(&mut seen, ports);
-    see_meters(&mut seen, logs);
+    seen.entries = [entries_of(ports.first()), entries_of(ports.get(1))];
+    seen.ports = [numbers(ports.first()), numbers(ports.get(1))];
+    seen.meters = [marked(logs.first()), marked(logs.get(1))];
     if let [input] = inputs {
         see_input(&mut seen, input);
     }
@@ -199,21 +203,11 @@ pub fn gather(ended: &Ended) -> Seen {
 /// Runs a command; the report goes to `said`.
 pub fn run<R: Threads + Wait + Sync + AllocGlobal + Abort, H: Shelf, K: Sink>(
     rt: &R,
-    line: &str,
-    shelf: &mut H,
-    said: &mut K,
-) -> Ended {
-    run_words(rt, &words_of(rt, line), shelf, said)
-}
-
-/// Runs the command of these words.
-pub fn run_words<R: Threads + Wait + Sync + AllocGlobal + Abort, H: Shelf, K: Sink>(
-    rt: &R,
     words: &[String],
     shelf: &mut H,
     said: &mut K,
-) -> Ended {
-    qos_top(rt, rt.alloc(), words, shelf, said, &OpenGate)
+) -> Seen {
+    gather(&qos_top(rt, rt.alloc(), words, shelf, said, &OpenGate))
 }
 
 /// A report has this text.
