@@ -34,6 +34,16 @@ pipe = host
 code = dscp
 ";
 
+static MANY: Row<'static> = Row {
+    note: "4,096 pipes",
+    end: End {
+        first: [1000, 1000, 0, 0, 0, 1000, 1_248_750_124],
+        ..EMPTY
+    },
+    report: Some(reports::MANY_PIPES),
+    ..NONE
+};
+
 // 1,000 frames of 100 bytes, a millisecond apart.
 fn frames<R: AllocGlobal + Abort>(rt: &R) -> Vec<Rec> {
     let mut frames = Vec::new(rt.alloc());
@@ -55,16 +65,10 @@ fn frames<R: AllocGlobal + Abort>(rt: &R) -> Vec<Rec> {
 fn each_packet_goes_at_its_arrival(rt: HostRuntime) {
     let frames = frames(&rt);
     let row = Row {
-        note: "4,096 pipes",
         text: Some(MANY_PIPES.as_bytes()),
         input: Input::Capture(PLAIN, &frames, 0),
-        end: End {
-            first: [1000, 1000, 0, 0, 0, 1000, 1_248_750_124],
-            ..EMPTY
-        },
         outputs: [&frames, &[]],
-        report: Some(reports::MANY_PIPES),
-        ..NONE
+        ..MANY
     };
     check(&rt, &row);
 }

@@ -54,13 +54,14 @@ fn words_that_ask_for_nothing(rt: HostRuntime) {
     }
 }
 
+static WITHOUT: Row<'static> = Row {
+    note: "no words",
+    ..USAGE
+};
+
 #[test]
 fn no_words(rt: HostRuntime) {
-    let row = Row {
-        note: "no words",
-        ..USAGE
-    };
-    ends_as(&rt, &[], &mut MemShelf::new(rt.alloc()), &row);
+    ends_as(&rt, &[], &mut MemShelf::new(rt.alloc()), &WITHOUT);
 }
 
 // The profile has a fault.
@@ -227,23 +228,26 @@ fn profiles_that_are_missing(rt: HostRuntime) {
     }
 }
 
+static EMPTY_PROFILE: Row<'static> = Row {
+    note: "an empty profile",
+    end: End {
+        note: Note::Profile(ProfileFault {
+            line: 0,
+            kind: FaultKind::Missing,
+            total: 0,
+        }),
+        ..FAULTY
+    },
+    report: Some("profile line 0 fault 7\nstatus 3\n"),
+    ..NONE
+};
+
 // A name of no file opens as an empty one where it is sure to read, and an empty text is no profile.
 #[test]
 fn a_profile_that_is_empty(rt: HostRuntime) {
-    let row = Row {
-        note: "an empty profile",
-        end: End {
-            note: Note::Profile(ProfileFault {
-                line: 0,
-                kind: FaultKind::Missing,
-                total: 0,
-            }),
-            ..FAULTY
-        },
-        report: Some("profile line 0 fault 7\nstatus 3\n"),
-        ..NONE
-    };
+    let words = words_of(&rt, WORDS);
     let mut shelf = WholeShelf::new(rt.alloc());
-    ends_as(&rt, &words_of(&rt, WORDS), &mut shelf, &row);
-    same(&rt, &shelf.file("o.0.pcap"), &None, row.note);
+    ends_as(&rt, &words, &mut shelf, &EMPTY_PROFILE);
+    same(&rt, &shelf.file("o.0.pcap"), &None, "an empty profile");
+    drop(shelf);
 }

@@ -371,16 +371,20 @@ fn inputs_stop(rt: HostRuntime) {
 }
 
 // Each frame goes at its arrival, which is a whole number of microseconds.
+static EACH: Row<'static> = Row {
+    note: "the four magic numbers",
+    end: End {
+        first: [3, 3, 0, 0, 0, 3, 7084],
+        ..EMPTY
+    },
+    ..NONE
+};
+
 fn check_form<R: Threads + Wait + Sync + AllocGlobal + Abort>(rt: &R, form: Form, records: &[Rec]) {
     let row = Row {
-        note: "the four magic numbers",
         input: Input::Capture(form, records, 0),
-        end: End {
-            first: [3, 3, 0, 0, 0, 3, 7084],
-            ..EMPTY
-        },
         outputs: [records, &[]],
-        ..NONE
+        ..EACH
     };
     check(rt, &row);
 }
