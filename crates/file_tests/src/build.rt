@@ -102,8 +102,12 @@ fn put_record<R: Abort>(rt: &R, bytes: &mut Vec<u8>, frame: Sent) {
 pub fn words_of<R: Abort + AllocGlobal>(rt: &R, line: &str) -> Vec<String> {
     let mut words = Vec::new(rt.alloc());
     for word in line.split(' ') {
-        let word = String::from_str(rt.alloc(), word).expect(rt, "memory");
-        words.push(word).expect(rt, "memory");
+        put_word(rt, &mut words, word);
     }
     words
+}
+
+fn put_word<R: Abort + AllocGlobal>(rt: &R, words: &mut Vec<String>, word: &str) {
+    let word = String::from_str(rt.alloc(), word).expect(rt, "memory");
+    words.push(word).expect(rt, "memory");
 }

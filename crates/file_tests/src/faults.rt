@@ -1,9 +1,8 @@
 //! Calls of the outside that fail, one or more in a run of three frames over two ports.
-use crate::build::{FIRST, PROFILE, SECOND, capture, input};
+use crate::build::{FIRST, PROFILE, SECOND, Sent, capture, input};
 use crate::faulty::{Call, FaultyShelf, Planned};
-use crate::seen::{FINE, NOTHING, PortNumbers, Seen, UNREAD, run, same, says, wanted};
-use crate::text::report_of;
-use qos_io::{MemShelf, PutFault, WholeSink};
+use crate::seen::{FINE, NOTHING, PortNumbers, Seen, UNREAD, ends_as, same};
+use qos_io::{MemShelf, PutFault};
 use qos_main::{PcapFault, Stop};
 use std::process::Abort;
 use std::sync::Wait;
@@ -44,35 +43,48 @@ fn failed(name: &str, call: Call) -> Planned<'_> {
     }
 }
 
-// A shelf with the profile `p` and the capture `a`.
-fn shelf_of<R: AllocGlobal + Abort>(rt: &R, less: usize) -> MemShelf {
+fn put_file<R: Abort>(rt: &R, shelf: &mut MemShelf, name: &str, bytes: Vec<u8>) {
+    shelf.put_file(name, bytes).expect(rt, "memory");
+}
+
+/// A shelf with this profile, `p`, and this capture, `a`.
+pub fn shelf_over<R: AllocGlobal + Abort>(rt: &R, profile: &str, input: Vec<u8>) -> MemShelf {
     let mut shelf = MemShelf::new(rt.alloc());
-    let text = PROFILE.as_bytes().to_vec(rt.alloc());
-    let text = text.expect(rt, "memory");
-    shelf.put_file("p", text).expect(rt, "memory");
-    let mut bytes = input(rt);
-    bytes.truncate(bytes.len().saturating_sub(less));
-    shelf.put_file("a", bytes).expect(rt, "memory");
+    put_file(rt, &mut shelf, "a", input);
+    let text = profile.as_bytes().to_vec(rt.alloc());
+    put_file(rt, &mut shelf, "p", text.expect(rt, "memory"));
     shelf
 }
 
-/// The file of this name has so many of these bytes, or there is none.
-pub fn holds<R: Abort>(rt: &R, shelf: &MemShelf, name: &str, whole: &[u8], size: Option<usize>) {
+fn shelf_of<R: AllocGlobal + Abort>(rt: &R, less: usize) -> MemShelf {
+    let mut bytes = input(rt);
+    bytes.truncate(bytes.len().saturating_sub(less));
+    shelf_over(rt, PROFILE, bytes)
+}
+
+fn has<R: Abort>(rt: &R, shelf: &MemShelf, name: &str, whole: &[u8], size: Option<usize>) {
     let first = size.map(|size| &whole[..size.min(whole.len())]);
     same(rt, &shelf.file(name), &first, name);
+}
+
+/// The file of this name has so many bytes of the capture of these frames, or there is none.
+pub fn holds<R: AllocGlobal + Abort>(
+    rt: &R,
+    shelf: &MemShelf,
+    name: &str,
+    frames: &[Sent],
+    size: Option<usize>,
+) {
+    has(rt, shelf, name, &capture(rt, frames), size);
 }
 
 /// Runs a row.
 pub fn check<R: Threads + Wait + Sync + AllocGlobal + Abort>(rt: &R, row: &Row<'_>) {
     let mut shelf = FaultyShelf::new(rt.alloc(), shelf_of(rt, row.less), row.plan);
-    let mut said = WholeSink::new(rt.alloc());
-    let found = run(rt, "run --profile p --out o a", &mut shelf, &mut said);
-    let expected = wanted(&row.end);
-    same(rt, &found, &expected, "how it ended");
-    says(rt, said.bytes(), report_of(rt, &expected).as_str());
-    let (first, second) = (capture(rt, &FIRST), capture(rt, &SECOND));
-    holds(rt, &shelf.files, "o.0.pcap", &first, row.files[0]);
-    holds(rt, &shelf.files, "o.1.pcap", &second, row.files[1]);
+    ends_as(rt, "run --profile p --out o a", &mut shelf, &row.end);
+    holds(rt, &shelf.files, "o.0.pcap", &FIRST, row.files[0]);
+    holds(rt, &shelf.files, "o.1.pcap", &SECOND, row.files[1]);
+    drop(shelf);
 }
 
 #[test]
@@ -80,17 +92,25 @@ fn nothing_fails(rt: HostRuntime) {
     check(&rt, &WHOLE);
 }
 
+static NO_PROFILE: Row<'static> = Row {
+    end: UNREAD,
+    ..NONE
+};
+
+fn check_profile<R: Threads + Wait + Sync + AllocGlobal + Abort>(rt: &R, call: Call) {
+    let plan = [failed("p", call)];
+    let row = Row {
+        plan: &plan,
+        ..NO_PROFILE
+    };
+    check(rt, &row);
+}
+
 // The profile is read at once, and a second read finds its end. Nothing is created.
 #[test]
 fn the_profile_fails(rt: HostRuntime) {
     for call in [Call::Open, Call::Read(0), Call::Read(1)] {
-        let plan = [failed("p", call)];
-        let row = Row {
-            plan: &plan,
-            end: UNREAD,
-            ..NONE
-        };
-        check(&rt, &row);
+        check_profile(&rt, call);
     }
 }
 
@@ -101,7 +121,7 @@ const ONE: PortNumbers = [1, 1, 0, 0, 0, 1, 84];
 
 // The reads are of the header, and then of a head and a body in turn; the eighth finds the end. So many records stand
 // before the one that fails, and so many bytes are in the outputs.
-const READS: [(u32, PortNumbers, PortNumbers, [usize; 2]); 8] = [
+static READS: [(u32, PortNumbers, PortNumbers, [usize; 2]); 8] = [
     (0, IDLE, IDLE, [24, 24]),
     (1, IDLE, IDLE, [24, 24]),
     (2, IDLE, IDLE, [24, 24]),
@@ -112,30 +132,37 @@ const READS: [(u32, PortNumbers, PortNumbers, [usize; 2]); 8] = [
     (7, [2, 2, 0, 0, 0, 2, 168], ONE, [176, 100]),
 ];
 
+static UNREADABLE: Row<'static> = Row {
+    end: Seen {
+        status: 4,
+        stopped: Stop::Fault(PcapFault::Read),
+        ..FINE
+    },
+    ..WHOLE
+};
+
 fn check_read<R: Threads + Wait + Sync + AllocGlobal + Abort>(
     rt: &R,
-    row: (u32, PortNumbers, PortNumbers, [usize; 2]),
+    row: &(u32, PortNumbers, PortNumbers, [usize; 2]),
 ) {
-    let (nth, first, second, files) = row;
+    let (nth, first, second, files) = *row;
     let plan = [failed("a", Call::Read(nth))];
     let row = Row {
         plan: &plan,
         end: Seen {
-            status: 4,
-            stopped: Stop::Fault(PcapFault::Read),
             first,
             second,
-            ..FINE
+            ..UNREADABLE.end
         },
         files: [Some(files[0]), Some(files[1])],
-        ..WHOLE
+        ..UNREADABLE
     };
     check(rt, &row);
 }
 
 #[test]
 fn a_read_of_the_capture_fails(rt: HostRuntime) {
-    for row in READS {
+    for row in &READS {
         check_read(&rt, row);
     }
 }
@@ -160,7 +187,7 @@ fn the_capture_is_not_opened(rt: HostRuntime) {
 
 // An output is put in pieces: the header, and each record's head and body. Which piece fails, how many records were put
 // before it, and how many bytes.
-const PUTS: [(u32, u64, usize); 5] = [(0, 0, 0), (1, 0, 24), (2, 0, 40), (3, 1, 100), (4, 1, 116)];
+static PUTS: [(u32, u64, usize); 5] = [(0, 0, 0), (1, 0, 24), (2, 0, 40), (3, 1, 100), (4, 1, 116)];
 
 fn check_first<R: Threads + Wait + Sync + AllocGlobal + Abort>(
     rt: &R,
@@ -208,8 +235,8 @@ fn check_second<R: Threads + Wait + Sync + AllocGlobal + Abort>(
 #[test]
 fn the_first_output_fails(rt: HostRuntime) {
     check_first(&rt, Call::Create, 0, None);
-    for (nth, sent, size) in PUTS {
-        check_first(&rt, Call::Put(nth), sent, Some(size));
+    for (nth, sent, size) in &PUTS {
+        check_first(&rt, Call::Put(*nth), *sent, Some(*size));
     }
     check_first(&rt, Call::Close, 2, Some(176));
 }

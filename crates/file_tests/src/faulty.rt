@@ -6,7 +6,7 @@ use qos_io::{MemShelf, MemSource, PutFault, Shelf, Sink};
 use std::alloc::Global;
 
 /// A call on a name. Reads and puts have a number, from 0.
-#[derive(Clone, Copy, Debug, PartialEq, Eq)]
+#[derive(Clone, Copy, PartialEq)]
 pub enum Call {
     Open,
     Read(u32),
@@ -16,7 +16,7 @@ pub enum Call {
 }
 
 /// A call that fails. A read is never refused memory.
-#[derive(Clone, Copy, Debug)]
+#[derive(Clone, Copy)]
 pub struct Planned<'a> {
     pub name: &'a str,
     pub call: Call,

@@ -1,8 +1,6 @@
 //! Commands on the files of the system. Each test has names of its own in the folder where the tests run.
 use crate::build::{FIRST, PROFILE, SECOND, Sent, capture, input};
-use crate::seen::{FINE, Seen, UNREAD, run, same, says, wanted};
-use crate::text::report_of;
-use qos_io::WholeSink;
+use crate::seen::{FINE, Seen, UNREAD, ends_as, same};
 use qos_main::{FileShelf, PcapFault, Stop};
 use std::fs;
 use std::fs::File;
@@ -15,6 +13,12 @@ use std::thread::Threads;
 // Makes a file.
 fn make<R: Files + Abort>(rt: &R, name: &str, bytes: &[u8]) {
     fs::write(rt, name, bytes).expect(rt, "a file");
+}
+
+// Makes the profile and the capture.
+fn make_both<R: Files + AllocGlobal + Abort>(rt: &R, profile: &str, capture: &str) {
+    make(rt, profile, PROFILE.as_bytes());
+    make(rt, capture, &input(rt));
 }
 
 // A file has these bytes.
@@ -33,17 +37,12 @@ fn check<R: Files<File = File> + Threads + Wait + Sync + AllocGlobal + Abort>(
     words: &str,
     end: &Seen,
 ) {
-    let mut said = WholeSink::new(rt.alloc());
-    let found = run(rt, words, &mut FileShelf::new(rt), &mut said);
-    let expected = wanted(end);
-    same(rt, &found, &expected, words);
-    says(rt, said.bytes(), report_of(rt, &expected).as_str());
+    ends_as(rt, words, &mut FileShelf::new(rt), end);
 }
 
 #[test]
 fn a_command_on_files(rt: HostRuntime) {
-    make(&rt, "plan", PROFILE.as_bytes());
-    make(&rt, "whole", &input(&rt));
+    make_both(&rt, "plan", "whole");
     let words = "run --profile plan --out shaped whole";
     check(&rt, words, &FINE);
     holds(&rt, "shaped.0.pcap", &FIRST, "a new file");
@@ -54,7 +53,7 @@ fn a_command_on_files(rt: HostRuntime) {
 }
 
 // The output of port 0 is refused.
-const KEPT: Seen = Seen {
+static KEPT: Seen = Seen {
     status: 5,
     first: [2, 0, 0, 0, 2, 2, 168],
     write_faults: [true, false],
@@ -63,7 +62,7 @@ const KEPT: Seen = Seen {
 
 // The output of port 0 is the capture or the profile under another name: with a folder before it, and by a link of either
 // kind. With the words, the output of port 1.
-const OVERWRITING: [(&str, &str); 7] = [
+static OVERWRITING: [(&str, &str); 7] = [
     (
         "run --profile rules.0.pcap --out ./kept kept.0.pcap",
         "kept.1.pcap",
@@ -103,9 +102,9 @@ fn linked<R: Files + Abort>(rt: &R, name: &str, bytes: &[u8], soft: &str, hard: 
 
 fn check_kept<R: Files<File = File> + Threads + Wait + Sync + AllocGlobal + Abort>(
     rt: &R,
-    row: (&str, &str),
+    row: &(&str, &str),
 ) {
-    let (words, other) = row;
+    let (words, other) = *row;
     check(rt, words, &KEPT);
     has(rt, "kept.0.pcap", &input(rt), words);
     has(rt, "rules.0.pcap", PROFILE.as_bytes(), words);
@@ -119,23 +118,23 @@ fn inputs_are_not_overwritten(rt: HostRuntime) {
     linked(&rt, "kept.0.pcap", &bytes, "soft.0.pcap", "hard.0.pcap");
     let text = PROFILE.as_bytes();
     linked(&rt, "rules.0.pcap", text, "softer.0.pcap", "harder.0.pcap");
-    for row in OVERWRITING {
+    for row in &OVERWRITING {
         check_kept(&rt, row);
     }
 }
 
+static FULL: Seen = Seen {
+    status: 5,
+    write_faults: [true, false],
+    ..FINE
+};
+
 // A full device takes what fits into the program's buffer, and fails when it is flushed.
 #[test]
 fn an_output_is_full(rt: HostRuntime) {
-    make(&rt, "layout", PROFILE.as_bytes());
-    make(&rt, "frames", &input(&rt));
+    make_both(&rt, "layout", "frames");
     unix::fs::symlink(&rt, "/dev/full", "full.0.pcap").expect(&rt, "a link");
-    let end = Seen {
-        status: 5,
-        write_faults: [true, false],
-        ..FINE
-    };
-    check(&rt, "run --profile layout --out full frames", &end);
+    check(&rt, "run --profile layout --out full frames", &FULL);
     holds(&rt, "full.1.pcap", &SECOND, "the other output");
 }
 
@@ -161,7 +160,7 @@ const UNOPENED: Seen = Seen {
 };
 
 // A folder opens, and fails when it is read; in a folder that is not there nothing is opened or created.
-const OUTSIDE: [(&str, Seen); 5] = [
+static OUTSIDE: [(&str, Seen); 5] = [
     ("run --profile terms --out absent/o ours", UNWRITTEN),
     ("run --profile terms --out unread .", NO_CAPTURE),
     ("run --profile terms --out unopened absent/a", UNOPENED),
@@ -169,19 +168,20 @@ const OUTSIDE: [(&str, Seen); 5] = [
     ("run --profile absent/p --out never ours", UNREAD),
 ];
 
+static RECORDLESS: [&str; 4] = [
+    "unread.0.pcap",
+    "unread.1.pcap",
+    "unopened.0.pcap",
+    "unopened.1.pcap",
+];
+
 #[test]
 fn the_outside_fails(rt: HostRuntime) {
-    make(&rt, "terms", PROFILE.as_bytes());
-    make(&rt, "ours", &input(&rt));
-    for (words, end) in OUTSIDE {
-        check(&rt, words, &end);
+    make_both(&rt, "terms", "ours");
+    for (words, end) in &OUTSIDE {
+        check(&rt, words, end);
     }
-    for name in [
-        "unread.0.pcap",
-        "unread.1.pcap",
-        "unopened.0.pcap",
-        "unopened.1.pcap",
-    ] {
+    for name in &RECORDLESS {
         holds(&rt, name, &[], "an output of no record");
     }
     let made = fs::read(&rt, "never.0.pcap").is_ok();

@@ -4,6 +4,9 @@ use crate::faulty::{Call, Planned};
 use crate::seen::{FINE, NOTHING, Seen};
 use qos_io::PutFault;
 use qos_main::{PcapFault, Stop};
+use std::process::Abort;
+use std::sync::Wait;
+use std::thread::Threads;
 
 // A failure of the capture's opening, the start of the other plans.
 const UNOPENED: Planned<'static> = Planned {
@@ -36,7 +39,7 @@ const TORN: Row<'static> = Row {
 
 // A read fault stands before a write fault, and before a fault of the capture that was not come to; so does a fault of
 // the capture before a write fault.
-const FAULTS: [Row<'static>; 5] = [
+static FAULTS: [Row<'static>; 5] = [
     TORN,
     Row {
         plan: &[
@@ -123,7 +126,7 @@ const MEMORY: Seen = Seen {
 
 // Which call is refused memory, and what the outputs hold then. One that was created before the run came to nothing is
 // empty; where a put or the closing is refused, the other is whole.
-const REFUSED: [(&str, Call, [Option<usize>; 2]); 7] = [
+static REFUSED: [(&str, Call, [Option<usize>; 2]); 7] = [
     ("p", Call::Open, [None, None]),
     ("a", Call::Open, [None, None]),
     ("o.0.pcap", Call::Create, [None, None]),
@@ -133,22 +136,34 @@ const REFUSED: [(&str, Call, [Option<usize>; 2]); 7] = [
     ("o.1.pcap", Call::Close, [Some(176), Some(100)]),
 ];
 
+static NO_MEMORY: Row<'static> = Row {
+    end: MEMORY,
+    ..NONE
+};
+
+fn check_refused<R: Threads + Wait + Sync + AllocGlobal + Abort>(
+    rt: &R,
+    row: &(&str, Call, [Option<usize>; 2]),
+) {
+    let (name, call, files) = *row;
+    let plan = [refused(name, call)];
+    let row = Row {
+        plan: &plan,
+        files,
+        ..NO_MEMORY
+    };
+    check(rt, &row);
+}
+
 #[test]
 fn memory_is_refused(rt: HostRuntime) {
-    for (name, call, files) in REFUSED {
-        let plan = [refused(name, call)];
-        let row = Row {
-            plan: &plan,
-            end: MEMORY,
-            files,
-            ..NONE
-        };
-        check(&rt, &row);
+    for row in &REFUSED {
+        check_refused(&rt, row);
     }
 }
 
 // Want of memory stands before a read fault, a fault of the capture and a write fault.
-const FIRST: [Row<'static>; 3] = [
+static FIRST: [Row<'static>; 3] = [
     Row {
         plan: &[
             UNOPENED,

@@ -1,6 +1,7 @@
 //! What a command over two ports ended with, in one value that tests compare.
 use crate::build::words_of;
-use qos_io::{OpenGate, Shelf, Sink};
+use crate::text::report_of;
+use qos_io::{OpenGate, Shelf, Sink, WholeSink};
 use qos_main::{Ended, InputEnd, Note, PortEnd, Stop, qos_top};
 use std::fmt::Debug;
 use std::process::Abort;
@@ -11,7 +12,7 @@ use std::thread::Threads;
 pub type PortNumbers = [u64; 7];
 
 /// What a command ended with.
-#[derive(Clone, Copy, Debug, PartialEq, Eq)]
+#[derive(Clone, Copy, Debug, PartialEq)]
 pub struct Seen {
     pub status: u8,
     pub note: Note,
@@ -60,14 +61,21 @@ pub const FINE: Seen = Seen {
     reasons: [0; 7],
 };
 
+// The sums of the ports' numbers that a run's input has: arrived, sent, left and not put.
+fn sums(end: &Seen) -> [u64; 4] {
+    let (first, second) = (&end.first, &end.second);
+    [
+        first[0].saturating_add(second[0]),
+        first[1].saturating_add(second[1]),
+        first[2].saturating_add(second[2]),
+        first[4].saturating_add(second[4]),
+    ]
+}
+
 /// What is seen where a command comes to this: the input's numbers are the sums of the ports', and so many more records
 /// are read as are lost before they come to a port.
 pub fn wanted(end: &Seen) -> Seen {
-    let mut sums = end.first;
-    for (sum, more) in sums.iter_mut().zip(end.second) {
-        *sum = sum.saturating_add(more);
-    }
-    let [mut read, sent, left, _, unwritten, _, _] = sums;
+    let [mut read, sent, left, unwritten] = sums(end);
     for lost in &end.reasons[..6] {
         read = read.saturating_add(*lost);
     }
@@ -119,8 +127,8 @@ pub fn gather(ended: &Ended) -> Seen {
     seen
 }
 
-/// Runs a command; the report goes to `said`.
-pub fn run<R: Threads + Wait + Sync + AllocGlobal + Abort, H: Shelf, K: Sink>(
+// Runs a command; the report goes to `said`.
+fn run<R: Threads + Wait + Sync + AllocGlobal + Abort, H: Shelf, K: Sink>(
     rt: &R,
     line: &str,
     shelf: &mut H,
@@ -130,8 +138,34 @@ pub fn run<R: Threads + Wait + Sync + AllocGlobal + Abort, H: Shelf, K: Sink>(
     gather(&qos_top(rt, rt.alloc(), &words, shelf, said, &OpenGate))
 }
 
-/// A report has this text.
-pub fn says(rt: &impl Abort, said: &[u8], text: &str) {
+/// Runs a command, and compares what it ended with, and its report.
+pub fn ends_with<R: Threads + Wait + Sync + AllocGlobal + Abort, H: Shelf>(
+    rt: &R,
+    line: &str,
+    shelf: &mut H,
+    expected: &Seen,
+    report: &str,
+) {
+    let mut said = WholeSink::new(rt.alloc());
+    let found = run(rt, line, shelf, &mut said);
+    same(rt, &found, expected, line);
+    says(rt, said.bytes(), report);
+}
+
+/// The same, where the numbers of the input and the report follow from the others.
+pub fn ends_as<R: Threads + Wait + Sync + AllocGlobal + Abort, H: Shelf>(
+    rt: &R,
+    line: &str,
+    shelf: &mut H,
+    end: &Seen,
+) {
+    let expected = wanted(end);
+    let report = report_of(rt, &expected);
+    ends_with(rt, line, shelf, &expected, report.as_str());
+}
+
+// A report has this text.
+fn says(rt: &impl Abort, said: &[u8], text: &str) {
     same(rt, &str::from_utf8(said), &Ok(text), "the report");
 }
 

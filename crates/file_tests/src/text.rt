@@ -4,41 +4,21 @@ use qos_main::{Note, PcapFault, Stop};
 use std::fmt::Write;
 use std::process::Abort;
 
-const INPUT: [&str; 11] = [
-    "read",
-    "sent",
-    "left",
-    "unparsed",
-    "unmatched",
-    "oversize",
-    "toolong",
-    "noslot",
-    "policed",
-    "tailfull",
-    "unwritten",
-];
-
-const PORT: [&str; 7] = [
-    "arrived",
-    "sent",
-    "left",
-    "tailfull",
-    "unwritten",
-    "dequeues",
-    "time",
-];
-
 fn put<R: Abort>(rt: &R, text: &mut String, more: &str) {
     text.push_str(more).expect(rt, "memory");
 }
 
 // What the line is of, and each number behind its name.
-fn put_line<R: Abort>(rt: &R, text: &mut String, of: &str, names: &[&str], numbers: &[u64]) {
+fn put_line<R: Abort>(rt: &R, text: &mut String, of: &str, numbers: &[(&str, u64)]) {
     put(rt, text, of);
-    for (name, number) in names.iter().zip(numbers) {
-        write!(text, " {name} {number}").expect(rt, "memory");
+    for (name, number) in numbers {
+        put_number(rt, text, name, *number);
     }
     put(rt, text, "\n");
+}
+
+fn put_number<R: Abort>(rt: &R, text: &mut String, name: &str, number: u64) {
+    write!(text, " {name} {number}").expect(rt, "memory");
 }
 
 // The capture's only fault here is a record that is cut.
@@ -47,7 +27,7 @@ fn put_stop<R: Abort>(rt: &R, text: &mut String, stopped: Stop) {
         Stop::NotOpened => put(rt, text, "input 0 not opened\n"),
         Stop::Fault(PcapFault::Read) => put(rt, text, "input 0 read fault\n"),
         Stop::Fault(PcapFault::CutRecord(at)) => {
-            put_line(rt, text, "input 0 fault 5", &["at"], &[at]);
+            put_line(rt, text, "input 0 fault 5", &[("at", at)]);
         }
         _ => {}
     }
@@ -55,14 +35,43 @@ fn put_stop<R: Abort>(rt: &R, text: &mut String, stopped: Stop) {
 
 fn put_input<R: Abort>(rt: &R, text: &mut String, seen: &Seen) {
     let [read, sent, left, unwritten] = seen.input;
-    let [a, b, c, d, e, f, g] = seen.reasons;
-    let numbers = [read, sent, left, a, b, c, d, e, f, g, unwritten];
-    put_line(rt, text, "input 0", &INPUT, &numbers);
-    put_stop(rt, text, seen.stopped);
+    let [
+        unparsed,
+        unmatched,
+        oversize,
+        too_long,
+        no_slot,
+        policed,
+        tailfull,
+    ] = seen.reasons;
+    let numbers = [
+        ("read", read),
+        ("sent", sent),
+        ("left", left),
+        ("unparsed", unparsed),
+        ("unmatched", unmatched),
+        ("oversize", oversize),
+        ("toolong", too_long),
+        ("noslot", no_slot),
+        ("policed", policed),
+        ("tailfull", tailfull),
+        ("unwritten", unwritten),
+    ];
+    put_line(rt, text, "input 0", &numbers);
 }
 
-fn put_port<R: Abort>(rt: &R, text: &mut String, name: &str, numbers: &PortNumbers, fault: bool) {
-    put_line(rt, text, name, &PORT, numbers);
+fn put_port<R: Abort>(rt: &R, text: &mut String, name: &str, port: &PortNumbers, fault: bool) {
+    let [arrived, sent, left, tailfull, unwritten, dequeues, time] = *port;
+    let numbers = [
+        ("arrived", arrived),
+        ("sent", sent),
+        ("left", left),
+        ("tailfull", tailfull),
+        ("unwritten", unwritten),
+        ("dequeues", dequeues),
+        ("time", time),
+    ];
+    put_line(rt, text, name, &numbers);
     if fault {
         put(rt, text, name);
         put(rt, text, " write fault\n");
@@ -71,6 +80,7 @@ fn put_port<R: Abort>(rt: &R, text: &mut String, name: &str, numbers: &PortNumbe
 
 fn put_run<R: Abort>(rt: &R, text: &mut String, seen: &Seen) {
     put_input(rt, text, seen);
+    put_stop(rt, text, seen.stopped);
     put_port(rt, text, "port 0", &seen.first, seen.write_faults[0]);
     put_port(rt, text, "port 1", &seen.second, seen.write_faults[1]);
 }

@@ -1,9 +1,9 @@
 //! A run whose report has a line of each kind.
 use crate::build::{Sent, capture};
-use crate::faults::holds;
+use crate::faults::{holds, shelf_over};
 use crate::faulty::{Call, FaultyShelf, Planned};
-use crate::seen::{FINE, Seen, run, same, says, wanted};
-use qos_io::{MemShelf, PutFault, WholeSink};
+use crate::seen::{FINE, Seen, ends_with, wanted};
+use qos_io::{MemShelf, PutFault};
 use qos_main::{PcapFault, Stop};
 use std::process::Abort;
 
@@ -115,32 +115,22 @@ status 6
 ";
 
 fn shelf<R: AllocGlobal + Abort>(rt: &R) -> MemShelf {
-    let mut shelf = MemShelf::new(rt.alloc());
-    let text = PROFILE.as_bytes().to_vec(rt.alloc());
-    let text = text.expect(rt, "memory");
-    shelf.put_file("p", text).expect(rt, "memory");
     let mut bytes = capture(rt, &FRAMES);
     bytes.extend_from_slice(&REST).expect(rt, "memory");
-    shelf.put_file("a", bytes).expect(rt, "memory");
-    shelf
+    shelf_over(rt, PROFILE, bytes)
 }
 
 // The second output has its header and the head of a record.
 fn wrote<R: AllocGlobal + Abort>(rt: &R, files: &MemShelf) {
-    let (first, second) = (
-        capture(rt, &[(0, 2), (84, 2)]),
-        capture(rt, &[(0, 200), (84, 200)]),
-    );
-    holds(rt, files, "o.0.pcap", &first, Some(176));
-    holds(rt, files, "o.1.pcap", &second, Some(40));
+    holds(rt, files, "o.0.pcap", &[(0, 2), (84, 2)], Some(176));
+    holds(rt, files, "o.1.pcap", &[(0, 200), (84, 200)], Some(40));
 }
 
 #[test]
 fn each_line_is_reported(rt: HostRuntime) {
     let mut shelf = FaultyShelf::new(rt.alloc(), shelf(&rt), &UNPUT);
-    let mut said = WholeSink::new(rt.alloc());
-    let found = run(&rt, "run --profile p --out o a", &mut shelf, &mut said);
-    same(&rt, &found, &wanted(&END), "how it ended");
-    says(&rt, said.bytes(), REPORT);
+    let words = "run --profile p --out o a";
+    ends_with(&rt, words, &mut shelf, &wanted(&END), REPORT);
     wrote(&rt, &shelf.files);
+    drop(shelf);
 }
