@@ -1,7 +1,7 @@
 //! Sources, sinks and shelves in memory.
 ghost use Rattle.std.specs.Prelude.{IsSome};
 
-use crate::check::{owned, same};
+use crate::check::{failing_sink, length_of, owned, same, shelf_with};
 use qos_io::{
     Failed, MemShelf, MemSink, MemSource, PutFault, Shelf, Sink, Source, WholeShelf, WholeSink,
     WholeSource,
@@ -57,27 +57,38 @@ fn puts<K: Sink>(rt: &impl Abort, sink: &mut K, put: &([u8; 2], Result<(), PutFa
     same(rt, &sink.put(bytes), answer, "a put");
 }
 
-fn failing_sink<R: Abort + AllocGlobal>(rt: &R) -> MemSink {
-    let fails = [1u32, 3].to_vec(rt.alloc()).expect(rt, "memory");
-    MemSink::new(rt.alloc(), fails)
-}
-
 fn puts_all<K: Sink>(rt: &impl Abort, sink: &mut K) {
     for put in PUTS {
         puts(rt, sink, put);
     }
 }
 
+fn failing_sink_holds<R: Abort + AllocGlobal>(rt: &R) {
+    let mut sink = failing_sink(rt, &[1, 3]);
+    puts_all(rt, &mut sink);
+    same(
+        rt,
+        &sink.bytes(),
+        &[1, 2, 5, 6, 9, 0].as_slice(),
+        "planned failures",
+    );
+}
+
+fn whole_sink_holds<R: Abort + AllocGlobal>(rt: &R) {
+    let mut sink = WholeSink::new(rt.alloc());
+    puts(rt, &mut sink, &PUTS[0]);
+    same(
+        rt,
+        &sink.bytes(),
+        &[1, 2].as_slice(),
+        "a sink that never fails",
+    );
+}
+
 #[test]
 fn sinks_hold_what_was_put(rt: HostRuntime) {
-    let mut sink = failing_sink(&rt);
-    puts_all(&rt, &mut sink);
-    let wanted = [1, 2, 5, 6, 9, 0].as_slice();
-    same(&rt, &sink.bytes(), &wanted, "planned failures");
-    let mut whole = WholeSink::new(rt.alloc());
-    puts(&rt, &mut whole, &([1, 2], Ok(())));
-    let wanted = [1, 2].as_slice();
-    same(&rt, &whole.bytes(), &wanted, "a sink that never fails");
+    failing_sink_holds(&rt);
+    whole_sink_holds(&rt);
 }
 
 /// Copies the first eight bytes of one file to another.
@@ -91,65 +102,76 @@ fn copy<H: Shelf>(shelf: &mut H, from: &str, to: &str) -> Result<(), PutFault> {
     shelf.close_out(sink)
 }
 
-fn copies<H: Shelf>(rt: &impl Abort, shelf: &mut H, row: &(&str, &str, Result<(), PutFault>)) {
+// From which file to which, and the answer.
+type Copied = (&'static str, &'static str, Result<(), PutFault>);
+
+fn copies<H: Shelf>(rt: &impl Abort, shelf: &mut H, row: &Copied) {
     let (from, to, answer) = row;
     same(rt, &copy(shelf, from, to), answer, from);
 }
 
-// From which file to which, and the answer.
-const COPIES: &[(&str, &str, Result<(), PutFault>)] = &[
+const COPIES: [Copied; 3] = [
     ("a", "b", Ok(())),
     ("c", "b", Err(PutFault::Failed)),
     ("b", "d", Ok(())),
 ];
 
 fn copies_all<H: Shelf>(rt: &impl Abort, shelf: &mut H) {
-    for row in COPIES {
+    for row in &COPIES {
         copies(rt, shelf, row);
     }
 }
 
 const ONES: Option<&[u8]> = Some(&[1; 3]);
 
-fn two_files<R: Abort + AllocGlobal>(rt: &R) -> MemShelf {
-    let mut shelf = MemShelf::new(rt.alloc());
-    for (name, byte) in [("a", 1), ("b", 4)] {
-        let put = shelf.put_file(name, owned(rt, &[byte; 3]));
-        put.expect(rt, "memory");
-    }
-    shelf
-}
-
-fn keeps(rt: &impl Abort, shelf: &MemShelf, name: &str, held: Option<&[u8]>) {
-    same(rt, &shelf.file(name), &held, name);
+// What the files "a" to "d" hold.
+fn held(shelf: &MemShelf) -> [Option<&[u8]>; 4] {
+    [
+        shelf.file("a"),
+        shelf.file("b"),
+        shelf.file("c"),
+        shelf.file("d"),
+    ]
 }
 
 #[test]
 fn a_shelf_keeps_files_by_name(rt: HostRuntime) {
-    let mut shelf = two_files(&rt);
+    let mut shelf = shelf_with(&rt, &[("a", &[1; 3]), ("b", &[4; 3])]);
     copies_all(&rt, &mut shelf);
-    keeps(&rt, &shelf, "a", ONES);
-    keeps(&rt, &shelf, "b", ONES);
-    keeps(&rt, &shelf, "c", None);
-    keeps(&rt, &shelf, "d", ONES);
+    same(&rt, &held(&shelf), &[ONES, ONES, None, ONES], "a to d");
 }
 
-fn whole_keeps(rt: &impl Abort, shelf: &WholeShelf, name: &str, held: Option<&[u8]>) {
-    same(rt, &shelf.file(name), &held, name);
+fn held_whole(shelf: &WholeShelf) -> [Option<&[u8]>; 4] {
+    [
+        shelf.file("a"),
+        shelf.file("b"),
+        shelf.file("c"),
+        shelf.file("d"),
+    ]
 }
+
+fn whole_shelf<R: Abort + AllocGlobal>(rt: &R) -> WholeShelf {
+    let mut shelf = WholeShelf::new(rt.alloc());
+    let put = shelf.put_file("a", owned(rt, &[1; 3]));
+    put.expect(rt, "memory");
+    shelf
+}
+
+const WHOLE_COPIES: [Copied; 2] = [("a", "b", Ok(())), ("c", "d", Ok(()))];
 
 // A name of no file opens as an empty file.
 #[test]
 fn a_whole_shelf_keeps_files_by_name(rt: HostRuntime) {
-    let mut shelf = WholeShelf::new(rt.alloc());
-    let put = shelf.put_file("a", owned(&rt, &[1; 3]));
-    put.expect(&rt, "memory");
-    copies(&rt, &mut shelf, &("a", "b", Ok(())));
-    copies(&rt, &mut shelf, &("c", "d", Ok(())));
-    whole_keeps(&rt, &shelf, "a", ONES);
-    whole_keeps(&rt, &shelf, "b", ONES);
-    whole_keeps(&rt, &shelf, "c", None);
-    whole_keeps(&rt, &shelf, "d", Some(&[]));
+    let mut shelf = whole_shelf(&rt);
+    for row in &WHOLE_COPIES {
+        copies(&rt, &mut shelf, row);
+    }
+    same(
+        &rt,
+        &held_whole(&shelf),
+        &[ONES, ONES, None, Some(&[])],
+        "a to d",
+    );
 }
 
 /// A sink of a shelf, with these bytes.
@@ -165,30 +187,28 @@ fn sink_with<R: Abort + AllocGlobal>(rt: &R, name: &str, bytes: &[u8]) -> MemSin
 #[test]
 fn a_sink_of_another_shelf_is_closed(rt: HostRuntime) {
     let mut shelf = MemShelf::new(rt.alloc());
-    let sink = sink_with(&rt, "a", &[1, 2]);
-    same(&rt, &shelf.close_out(sink), &Ok(()), "a closing");
-    same(
-        &rt,
-        &shelf.file("a").map(|bytes| bytes.len()),
-        &Some(2),
-        "a",
-    );
+    let closed = shelf.close_out(sink_with(&rt, "a", &[1, 2]));
+    let seen = (closed, length_of(&shelf, "a"));
+    same(&rt, &seen, &(Ok(()), Some(2)), "a closing, and a");
+}
+
+fn go<R: Threads, A: Send + Drop, B: Send + Drop>(rt: &R, one: A, other: B) {
+    thread::join(rt, move || drop(one), move || drop(other));
 }
 
 fn whole_objects_go<R: Threads + Abort + AllocGlobal>(rt: &R) {
     let mut shelf = WholeShelf::new(rt.alloc());
     let source = shelf.open_in("a").expect(rt, "memory");
     let sink = shelf.create_out("b").expect(rt, "memory");
-    thread::join(rt, move || drop(source), move || drop(sink));
-    thread::join(rt, move || drop(shelf), || ());
+    go(rt, source, sink);
+    go(rt, shelf, ());
 }
 
 #[test]
 fn objects_go_to_other_threads(rt: HostRuntime) {
     whole_objects_go(&rt);
-    let shelf = MemShelf::new(rt.alloc());
     let source = MemSource::new(Vec::new(rt.alloc()), Vec::new(rt.alloc()));
     let sink = MemSink::new(rt.alloc(), Vec::new(rt.alloc()));
-    thread::join(&rt, move || drop(source), move || drop(sink));
-    thread::join(&rt, move || drop(shelf), || ());
+    go(&rt, source, sink);
+    go(&rt, MemShelf::new(rt.alloc()), ());
 }

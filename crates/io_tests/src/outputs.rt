@@ -2,7 +2,7 @@
 ghost use Rattle.std.specs.Prelude.{◌≡◌, ◌≤◌, [], All, IfSome, IsSome, length, map, string_bytes, vec_capacity};
 ghost use Rattle.port_files.specs.Among.{AreApart};
 
-use crate::check::{owned, same};
+use crate::check::{length_of, same, shelf_with, text};
 use crate::planned_shelf::{Fails, PlannedShelf};
 use port_files::{close_all, create_all};
 use qos_io::{MemShelf, PutFault, Shelf};
@@ -16,12 +16,6 @@ struct Seen {
     sinks: [Option<bool>; 3],
     closed: bool,
     failed: [Option<bool>; 3],
-}
-
-fn text<R: AllocGlobal + Abort>(rt: &R, word: &str) -> String
-    ensures { string_bytes result ≡ word.now }
-{
-    String::from_str(rt.alloc(), word).expect(rt, "memory")
 }
 
 fn names<R: AllocGlobal + Abort>(rt: &R) -> Vec<String>
@@ -209,25 +203,9 @@ fn lengths(shelf: &MemShelf) -> [Option<usize>; 4] {
     ]
 }
 
-fn length_of(shelf: &MemShelf, name: &str) -> Option<usize> {
-    match shelf.file(name) {
-        Some(bytes) => Some(bytes.len()),
-        None => None,
-    }
-}
-
-fn shelf_with_two<R: AllocGlobal + Abort>(rt: &R) -> MemShelf {
-    let mut shelf = MemShelf::new(rt.alloc());
-    for name in ["b", "d"] {
-        let put = shelf.put_file(name, owned(rt, &[1, 2]));
-        put.expect(rt, "memory");
-    }
-    shelf
-}
-
 #[test]
 fn a_file_that_was_there_is_emptied(rt: HostRuntime) {
-    let mut shelf = shelf_with_two(&rt);
+    let mut shelf = shelf_with(&rt, &[("b", &[1, 2]), ("d", &[1, 2])]);
     let seen = run(&rt, &mut shelf);
     let wanted = [Some(0), Some(0), Some(0), Some(2)];
     let found = (seen, lengths(&shelf));

@@ -1,5 +1,5 @@
 //! The words of the command line, and the names of outputs.
-use crate::check::same;
+use crate::check::{same, text};
 use qos_words::{output_names, read_words};
 use std::process::Abort;
 
@@ -35,8 +35,7 @@ const LINES: &[(&str, Option<(&str, &str, &str)>)] = &[
 fn words_of<R: Abort + AllocGlobal>(rt: &R, line: &str) -> Vec<String> {
     let mut words = Vec::new(rt.alloc());
     for word in line.split(' ') {
-        let word = String::from_str(rt.alloc(), word).expect(rt, "memory");
-        words.push(word).expect(rt, "memory");
+        words.push(text(rt, word)).expect(rt, "memory");
     }
     words
 }
@@ -54,12 +53,16 @@ fn asks<R: Abort + AllocGlobal>(rt: &R, row: &(&str, Option<(&str, &str, &str)>)
     same(rt, &asked(&words), wanted, line);
 }
 
+fn asks_nothing(rt: &impl Abort) {
+    same(rt, &asked(&[]), &None, "no words");
+}
+
 #[test]
 fn words_ask_for_a_run(rt: HostRuntime) {
     for line in LINES {
         asks(&rt, line);
     }
-    same(&rt, &asked(&[]), &None, "no words");
+    asks_nothing(&rt);
 }
 
 fn names<R: Abort + AllocGlobal>(rt: &R, prefix: &str, ports: usize) -> Vec<String> {
@@ -67,15 +70,19 @@ fn names<R: Abort + AllocGlobal>(rt: &R, prefix: &str, ports: usize) -> Vec<Stri
     output_names(rt.alloc(), prefix, ports).expect(rt, "memory")
 }
 
+fn are_named<R: Abort + AllocGlobal>(rt: &R, ports: usize, line: &str) {
+    same(rt, &names(rt, "dir/o", ports), &words_of(rt, line), line);
+}
+
+fn all_are_named<R: Abort + AllocGlobal>(rt: &R) {
+    let all = names(rt, "o", 16);
+    let seen = (all.len(), all.last().map(|name| name.as_str()));
+    same(rt, &seen, &(16, Some("o.15.pcap")), "all ports");
+}
+
 #[test]
 fn outputs_have_names(rt: HostRuntime) {
-    for (ports, line) in [
-        (1, "dir/o.0.pcap"),
-        (3, "dir/o.0.pcap dir/o.1.pcap dir/o.2.pcap"),
-    ] {
-        same(&rt, &names(&rt, "dir/o", ports), &words_of(&rt, line), line);
-    }
-    let all = names(&rt, "o", 16);
-    let seen = (all.len(), all.last().map(|name| name.as_str()));
-    same(&rt, &seen, &(16, Some("o.15.pcap")), "all ports");
+    are_named(&rt, 1, "dir/o.0.pcap");
+    are_named(&rt, 3, "dir/o.0.pcap dir/o.1.pcap dir/o.2.pcap");
+    all_are_named(&rt);
 }

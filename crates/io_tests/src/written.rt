@@ -1,7 +1,7 @@
 //! Captures that are written, the numbers of faults, and the laws of captures.
 use crate::capture_bytes::{NANOSECONDS, STAMP, three};
-use crate::check::same;
-use qos_io::{MemSink, PutFault, Sink, WholeSink};
+use crate::check::{failing_sink, same};
+use qos_io::{PutFault, Sink, WholeSink};
 use qos_pcap::{PcapFault, laws, put_header, put_record};
 use std::process::Abort;
 
@@ -30,11 +30,6 @@ fn put_one<K: Sink>(out: &mut K) -> Result<(), PutFault> {
     put_record(out, STAMP, 60, &[7; 60])
 }
 
-fn failing_sink<R: Abort + AllocGlobal>(rt: &R, call: u32) -> MemSink {
-    let fails = vec![in rt.alloc(); call].expect(rt, "memory");
-    MemSink::new(rt.alloc(), fails)
-}
-
 fn begins_so<R: Abort + AllocGlobal>(rt: &R, held: &[u8], len: usize) {
     let mut text = three(rt, &NANOSECONDS);
     text.truncate(len);
@@ -43,7 +38,7 @@ fn begins_so<R: Abort + AllocGlobal>(rt: &R, held: &[u8], len: usize) {
 
 fn holds<R: Abort + AllocGlobal>(rt: &R, row: &(u32, Result<(), PutFault>, usize)) {
     let (call, answer, len) = row;
-    let mut out = failing_sink(rt, *call);
+    let mut out = failing_sink(rt, &[*call]);
     same(rt, &put_one(&mut out), answer, "the answer");
     begins_so(rt, out.bytes(), *len);
 }
