@@ -1,5 +1,5 @@
 # make: proves and builds the program with all processors, and puts the gateway's capture through the gateway's profile.
-# make demo: compiles the program without its proofs and does the same, in some 35 seconds.
+# make demo: compiles the program without its proofs and does the same, in some 40 seconds.
 # PROFILE=examples/metered.profile behind either: the gateway with meters.
 # make install PREFIX=DIR: puts the built program at DIR/bin/qos.
 # make bench: how fast the built program is on a million packets, beside plain copies.
