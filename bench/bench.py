@@ -3,10 +3,10 @@
 usage: bench.py PROGRAM [PACKETS]
 
 Packets have 64, 594 and 1,518 bytes, seven, four and one of twelve, or 64 alone, and go to one subscriber or to many. The
-captures and what is written lie in bench/out/; 1,000,000 packets of mixed sizes have 378 MB. `dd` copies as the program must, by
-reading and writing in pieces of 256 KiB; `cp` of newer systems leaves the copy to the kernel, which looks at no packet. Of the
-first row this claims that the program takes at most three times as long as `cp`; it ends with 1 where that fails. Only Python's
-standard library is used.
+captures and what is written lie in bench/out/; 1,000,000 packets of mixed sizes have 378 MB. `dd` copies by reading and writing
+in pieces of 256 KiB; `cp` of newer systems leaves the copy to the kernel, which looks at no packet. Of the first row this claims
+that the program takes at most two and a half times as long as `cp`; it ends with 1 where that fails. Only Python's standard
+library is used.
 """
 
 import os
@@ -51,7 +51,7 @@ code = dscp
 """
 
 # What is claimed of the first row: how many times as long as `cp`.
-MOST_TIMES = 3.0
+MOST_TIMES = 2.5
 
 
 def read_gateway():
@@ -71,7 +71,7 @@ ROWS = [
     ("one pipe, mixed sizes", ONE_PIPE, [0], MIXED, 880, 9, True),
     ("one pipe, 64 bytes", ONE_PIPE, [0], SMALL, 200, 3, True),
     ("256 pipes, mixed sizes", read_gateway(), list(range(256)), MIXED, 17_000, 3, False),
-    ("4,096 pipes, 64 of them with packets", wide_gateway(), list(range(0, 4096, 64)), MIXED, 17_000, 1, False),
+    ("4,096 pipes, 64 of them with packets", wide_gateway(), list(range(0, 4096, 64)), MIXED, 17_000, 3, False),
 ]
 
 
@@ -158,7 +158,7 @@ def main():
     os.makedirs(folder, exist_ok=True)
     times = [compare(program, folder, packets, row) for row in ROWS][0]
     holds = times <= MOST_TIMES
-    print(f"{'holds' if holds else 'FAILS'}: {ROWS[0][0]}: {times:.2f} times as long as cp, at most {MOST_TIMES:.0f}")
+    print(f"{'holds' if holds else 'FAILS'}: {ROWS[0][0]}: {times:.2f} times as long as cp, at most {MOST_TIMES}")
     sys.exit(0 if holds else 1)
 
 

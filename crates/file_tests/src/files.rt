@@ -32,12 +32,11 @@ fn holds<R: Files + AllocGlobal + Abort>(rt: &R, name: &str, frames: &[Sent], no
     has(rt, name, &capture(rt, frames), note);
 }
 
-fn check<R: Files<File = File> + Threads + Wait + Sync + AllocGlobal + Abort>(
-    rt: &R,
-    words: &str,
-    end: &Seen,
-) {
-    ends_as(rt, words, &mut FileShelf::new(rt), end);
+fn check<
+    R: Files<File = File> + Threads + Wait + Copy + Send + Sync + AllocGlobal + Abort + 'static,
+>(rt: &R, words: &str, end: &Seen) {
+    let mut shelf = FileShelf::new(rt).expect(rt, "a shelf");
+    ends_as(rt, words, &mut shelf, end);
 }
 
 #[test]
@@ -100,10 +99,9 @@ fn linked<R: Files + Abort>(rt: &R, name: &str, bytes: &[u8], soft: &str, hard: 
     fs::hard_link(rt, name, hard).expect(rt, "a link");
 }
 
-fn check_kept<R: Files<File = File> + Threads + Wait + Sync + AllocGlobal + Abort>(
-    rt: &R,
-    row: &(&str, &str),
-) {
+fn check_kept<
+    R: Files<File = File> + Threads + Wait + Copy + Send + Sync + AllocGlobal + Abort + 'static,
+>(rt: &R, row: &(&str, &str)) {
     let (words, other) = *row;
     check(rt, words, &KEPT);
     has(rt, "kept.0.pcap", &input(rt), words);

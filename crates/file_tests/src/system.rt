@@ -1,8 +1,17 @@
 //! Files of the system, and standard output, by the calls that a run makes on them.
 use crate::seen::same;
-use qos_io::{Failed, PutFault, Shelf, Sink, Source};
+use qos_io::{PutFault, Shelf, Sink, Source};
 use qos_main::{FileShelf, StdoutSink};
 use std::process::Abort;
+
+// So many bytes, of which those that stand 251 apart are the same.
+fn many<R: AllocGlobal + Abort>(rt: &R, count: usize) -> Vec<u8> {
+    let mut bytes = Vec::with_capacity(rt.alloc(), count).expect(rt, "memory");
+    for i in 0..count {
+        bytes.push((i % 251) as u8).expect(rt, "memory");
+    }
+    bytes
+}
 
 // The first put of these bytes into a full device.
 fn put<R: Abort, H: Shelf>(rt: &R, shelf: &mut H, bytes: &[u8]) -> Result<(), PutFault> {
@@ -21,31 +30,17 @@ fn put_and_close<R: Abort, H: Shelf>(
     [put, shelf.close_out(sink)]
 }
 
-// A put that is larger than the buffer is written at once.
+// The first piece has failed before the second one can go.
 #[test]
 fn a_full_device(rt: HostRuntime) {
-    let bytes = vec![in rt.alloc(); 7u8; 300_000].expect(&rt, "memory");
-    let mut shelf = FileShelf::new(&rt);
+    let bytes = many(&rt, 2_500_000);
+    let mut shelf = FileShelf::new(&rt).expect(&rt, "a shelf");
     let failed = put(&rt, &mut shelf, &bytes);
     same(&rt, &failed, &Err(PutFault::Failed), "a large put");
     let [put, closed] = put_and_close(&rt, &mut shelf, b"few");
     same(&rt, &put, &Ok(()), "a small put");
     same(&rt, &closed, &Err(PutFault::Failed), "the closing");
     drop(shelf);
-}
-
-// How many bytes a source has left, or that a read of it fails.
-fn left_in<S: Source>(source: &mut S) -> Result<u64, Failed> {
-    let mut buf = [0u8; 4096];
-    let mut all = 0u64;
-    for _ in 0..1u32 << 20 {
-        let n = source.read(&mut buf)?;
-        if n == 0 {
-            break;
-        }
-        all = all.saturating_add(n as u64);
-    }
-    Ok(all)
 }
 
 fn put_large<R: Abort, H: Shelf>(rt: &R, shelf: &mut H, bytes: &[u8]) {
@@ -57,18 +52,52 @@ fn put_large<R: Abort, H: Shelf>(rt: &R, shelf: &mut H, bytes: &[u8]) {
     same(rt, &shelf.close_out(sink), &Ok(()), "the closing");
 }
 
-fn compare_large<R: Abort, H: Shelf>(rt: &R, shelf: &mut H) {
+// Whether these are the next bytes of a source, read a few at a time.
+fn begins_with<S: Source>(source: &mut S, bytes: &[u8]) -> bool {
+    let mut buf = [0u8; 4096];
+    let mut left = bytes;
+    for _ in 0..bytes.len() {
+        if left.is_empty() {
+            break;
+        }
+        let room = left.len().min(buf.len());
+        let Ok(n) = source.read(&mut buf[..room]) else {
+            return false;
+        };
+        if n == 0 || left[..n] != buf[..n] {
+            return false;
+        }
+        left = &left[n..];
+    }
+    true
+}
+
+fn is_at_end<S: Source>(source: &mut S) -> bool {
+    source.read(&mut [0; 10]) == Ok(0)
+}
+
+fn compare_large<R: Abort, H: Shelf>(rt: &R, shelf: &mut H, bytes: &[u8]) {
     let mut source = shelf.open_in("large").expect(rt, "a source");
-    same(rt, &left_in(&mut source), &Ok(600_006), "what is read");
+    for _ in 0..2 {
+        same(rt, &begins_with(&mut source, bytes), &true, "the large put");
+        same(
+            rt,
+            &begins_with(&mut source, b"end"),
+            &true,
+            "the small put",
+        );
+    }
+    same(rt, &is_at_end(&mut source), &true, "the end");
+    same(rt, &is_at_end(&mut source), &true, "the end, again");
 }
 
 // Puts that are larger than the piece of one write, and small ones between them.
 #[test]
 fn a_large_file_is_read_back(rt: HostRuntime) {
-    let bytes = vec![in rt.alloc(); 7u8; 300_000].expect(&rt, "memory");
-    let mut shelf = FileShelf::new(&rt);
+    let bytes = many(&rt, 1_500_000);
+    let mut shelf = FileShelf::new(&rt).expect(&rt, "a shelf");
     put_large(&rt, &mut shelf, &bytes);
-    compare_large(&rt, &mut shelf);
+    compare_large(&rt, &mut shelf, &bytes);
     drop(shelf);
 }
 

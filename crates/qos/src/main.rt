@@ -23,10 +23,9 @@ fn arguments<R: Env + AllocGlobal>(rt: &R) -> Result<Vec<String>, AllocError> {
 
 fn main(rt: HostRuntime) -> ExitCode {
     let mut said = StdoutSink::new(&rt);
-    let Ok(words) = arguments(&rt) else {
+    let (Ok(words), Ok(mut shelf)) = (arguments(&rt), FileShelf::new(&rt)) else {
         return ExitCode::from(put_memory(&mut said).number());
     };
-    let mut shelf = FileShelf::new(&rt);
     let ended = qos_top(&rt, rt.alloc(), &words, &mut shelf, &mut said, &OpenGate);
     ExitCode::from(ended.status)
 }

@@ -1,19 +1,21 @@
 //! The outside of the program: files by their names, and standard output. What they hold is not told,
 //! and any call may fail; each failure is counted.
 ghost use Rattle.std.specs.IoError.{error_kind};
-ghost use Rattle.std.specs.Prelude.{◌≡◌, ◌<◌, ◌↔◌, ◌≤◌, [], None, Some, length, IfOk, IfSome, string_bytes};
+ghost use Rattle.std.specs.Prelude.{◌≡◌, ◌↔◌, ◌≤◌, [], None, Some, string_bytes};
 ghost use Rattle.qos_io.specs.Fault.{HasRisen};
 
+use crate::mover::Mover;
+use crate::reader::PieceReader;
+use crate::writer::{PieceWriter, Pieces};
 use qos_io::{Failed, PutFault, Shelf, Sink, Source};
-use std::alloc::{AllocError, Global};
+use std::alloc::AllocError;
 use std::fs::{File, Metadata};
 use std::io;
-use std::io::{BufReader, BufWriter, ErrorKind, Read, Write};
+use std::io::ErrorKind;
 use std::os::unix::fs::MetadataExt;
 use std::rt::Files;
-
-// The bytes of one read or write of a file.
-const PIECE: usize = 256 * 1024;
+use std::sync::Wait;
+use std::thread::Threads;
 
 // A count of faults after one more. It stays at 2^64 - 1.
 fn raised(faults: u64) -> u64
@@ -43,27 +45,34 @@ impl Node {
 #[derive(Drop)]
 pub struct FileShelf<'a, R> {
     rt: &'a R,
+    reader: Mover,
+    writer: Mover,
     opened: Vec<Node>,
     faults: u64,
 }
 
-impl<'a, R: Files<File = File> + AllocGlobal> FileShelf<'a, R> {
-    /// The files that `rt` reaches; no fault is counted yet.
-    pub fn new(rt: &'a R) -> FileShelf<'a, R> {
-        FileShelf {
+impl<'a, R: Threads + Wait + Copy + Send + AllocGlobal + 'static> FileShelf<'a, R> {
+    /// The files that `rt` reaches; no fault is counted yet. It starts two threads, of which one reads and one writes.
+    pub fn new(rt: &'a R) -> Result<FileShelf<'a, R>, AllocError> {
+        let alloc = rt.alloc();
+        Ok(FileShelf {
             rt,
-            opened: Vec::new(rt.alloc()),
+            reader: Mover::new(rt, alloc)?,
+            writer: Mover::new(rt, alloc)?,
+            opened: Vec::new(alloc),
             faults: 0,
-        }
+        })
     }
+}
 
+impl<'a, R: Files<File = File> + Wait + AllocGlobal> FileShelf<'a, R> {
     // Opens a file for reading, and keeps in mind which one it is.
-    fn open(&mut self, name: &str) -> io::Result<FileSource>
+    fn open(&mut self, name: &str) -> io::Result<FileSource<'a, R>>
         ensures faults { self.new.faults ≡ self.old.faults }
     {
         let file = File::open(self.rt, name)?;
         self.opened.push(Node::of(&file.metadata()?))?;
-        let reader = BufReader::with_capacity(self.rt.alloc(), PIECE, file)?;
+        let reader = PieceReader::new(self.rt, self.rt.alloc(), &self.reader, file)?;
         Ok(FileSource { reader, faults: 0 })
     }
 
@@ -98,10 +107,10 @@ impl<'a, R: Files<File = File> + AllocGlobal> FileShelf<'a, R> {
     }
 }
 
-impl<'a, R: Files<File = File> + AllocGlobal> Shelf for FileShelf<'a, R> {
-    type In = FileSource;
+impl<'a, R: Files<File = File> + Wait + Sync + AllocGlobal> Shelf for FileShelf<'a, R> {
+    type In = FileSource<'a, R>;
 
-    type Out = FileSink;
+    type Out = FileSink<'a, R>;
 
     ghost Tells = { λ _. ⊥ };
 
@@ -115,7 +124,7 @@ impl<'a, R: Files<File = File> + AllocGlobal> Shelf for FileShelf<'a, R> {
 
     ghost IsSureToWrite = { λ _ _. ⊥ };
 
-    fn open_in(&mut self, name: &str) -> Result<FileSource, PutFault> {
+    fn open_in(&mut self, name: &str) -> Result<FileSource<'a, R>, PutFault> {
         match self.open(name) {
             Ok(source) => Ok(source),
             Err(error) => Err(self.fault(error)),
@@ -123,19 +132,23 @@ impl<'a, R: Files<File = File> + AllocGlobal> Shelf for FileShelf<'a, R> {
     }
 
     /// The memory that the sink needs is taken before the file is touched. What the system refuses is a failure.
-    fn create_out(&mut self, name: &str) -> Result<FileSink, PutFault> {
-        let mut sink = FileSink::unopened(self.rt.alloc(), name)?;
+    fn create_out(&mut self, name: &str) -> Result<FileSink<'a, R>, PutFault> {
+        let alloc = self.rt.alloc();
+        let pieces = Pieces::new(self.rt, alloc, &self.writer)?;
+        let kept = String::from_str(alloc, name)?;
         let Ok(file) = self.create(name) else {
             self.faults = raised(self.faults);
             return Err(PutFault::Failed);
         };
-        sink.open(file);
-        Ok(sink)
+        Ok(FileSink {
+            writer: PieceWriter::new(pieces, file),
+            name: kept,
+            faults: 0,
+        })
     }
 
-    fn close_out(&mut self, out: FileSink) -> Result<(), PutFault> {
-        let mut out = out;
-        if out.writer.flush().is_ok() {
+    fn close_out(&mut self, out: FileSink<'a, R>) -> Result<(), PutFault> {
+        if out.writer.finish() {
             return Ok(());
         }
         self.faults = raised(self.faults);
@@ -145,12 +158,12 @@ impl<'a, R: Files<File = File> + AllocGlobal> Shelf for FileShelf<'a, R> {
 
 /// A file that is read.
 #[derive(Drop)]
-pub struct FileSource {
-    reader: BufReader<File>,
+pub struct FileSource<'a, R> {
+    reader: PieceReader<'a, R>,
     faults: u64,
 }
 
-impl Source for FileSource {
+impl<'a, R: Wait> Source for FileSource<'a, R> {
     ghost remaining = { λ _. None };
 
     ghost faults = { λ s. s.faults };
@@ -159,7 +172,7 @@ impl Source for FileSource {
 
     #[inline(always)]
     fn read(&mut self, buf: &mut [u8]) -> Result<usize, Failed> {
-        if let Some(n) = read_some(&mut self.reader, buf) {
+        if let Some(n) = self.reader.read(buf) {
             return Ok(n);
         }
         self.faults = raised(self.faults);
@@ -167,94 +180,15 @@ impl Source for FileSource {
     }
 }
 
-// Reads again where a signal interrupts the read.
-fn read_some(reader: &mut BufReader<File>, buf: &mut [u8]) -> Option<usize>
-    ensures { IfSome result (λ n. n ≤ length buf.old) }
-{
-    for _ in 0..u64::MAX {
-        match reader.read(buf) {
-            Ok(n) => return Some(n),
-            Err(error) if error.kind() == ErrorKind::Interrupted => {}
-            Err(_) => break,
-        }
-    }
-    None
-}
-
-// Where a sink writes: nowhere, until its file is there.
-#[derive(Drop)]
-struct Target {
-    file: Option<File>,
-}
-
-impl Write for Target {
-    fn write(&mut self, buf: &[u8]) -> io::Result<usize> {
-        match &mut self.file {
-            Some(file) => file.write(buf),
-            None => Err(io::Error::from(ErrorKind::NotFound)),
-        }
-    }
-
-    fn flush(&mut self) -> io::Result<()> {
-        Ok(())
-    }
-}
-
 /// A file that is written.
 #[derive(Drop)]
-pub struct FileSink {
-    writer: BufWriter<Target>,
-    // how many bytes of the next piece it has
-    held: usize,
+pub struct FileSink<'a, R> {
+    writer: PieceWriter<'a, R>,
     name: String,
     faults: u64,
-    ghost piece: { held < 262144 },
 }
 
-impl FileSink {
-    // A sink of this name, with all the memory that it takes, and no file yet.
-    fn unopened(alloc: Global, name: &str) -> Result<FileSink, AllocError>
-        ensures { IfOk result (λ sink. string_bytes sink.name ≡ name.now) }
-    {
-        let target = Target { file: None };
-        let Ok(writer) = BufWriter::with_capacity(alloc, PIECE, target) else {
-            return Err(AllocError);
-        };
-        Ok(FileSink {
-            writer,
-            held: 0,
-            name: String::from_str(alloc, name)?,
-            faults: 0,
-        })
-    }
-
-    // Writes into this file from now on.
-    fn open(&mut self, file: File)
-        ensures { string_bytes self.new.name ≡ string_bytes self.old.name }
-    {
-        self.writer.get_mut().file = Some(file);
-    }
-
-    // Writes bytes so that the file is written in whole pieces from its beginning on: one that ends within a page of the
-    // system's is begun again with the next.
-    fn write(&mut self, bytes: &[u8]) -> io::Result<()>
-        ensures name { self.new.name ≡ self.old.name }
-        ensures faults { self.new.faults ≡ self.old.faults }
-    {
-        let room = PIECE - self.held;
-        if bytes.len() < room {
-            self.writer.write_all(bytes)?;
-            self.held += bytes.len();
-            return Ok(());
-        }
-        self.writer.write_all(&bytes[..room])?;
-        self.writer.write_all(&bytes[room..])?;
-        self.held = (bytes.len() - room) % PIECE;
-        Ok(())
-    }
-}
-
-impl Sink for FileSink {
+impl<'a, R: Wait> Sink for FileSink<'a, R> {
     ghost contents = { λ _. None };
 
     ghost name = { λ s. Some (string_bytes s.name) };
@@ -263,8 +197,9 @@ impl Sink for FileSink {
 
     ghost IsSure = { λ _. ⊥ };
 
+    #[inline(always)]
     fn put(&mut self, bytes: &[u8]) -> Result<(), PutFault> {
-        if self.write(bytes).is_ok() {
+        if self.writer.put(bytes) {
             return Ok(());
         }
         self.faults = raised(self.faults);

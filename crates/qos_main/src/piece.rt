@@ -1,0 +1,101 @@
+//! A piece of a file: what is read at once, or written at once.
+ghost use Rattle.std.specs.Prelude.{◌≡◌, ◌≤◌, length, vec_len, vec_capacity};
+
+use std::alloc::{AllocError, Global};
+use std::fs::File;
+use std::io::{ErrorKind, Read, Write};
+
+/// The bytes of a full piece.
+pub const PIECE: usize = 1024 * 1024;
+
+/// Bytes of a file, of which the first were given out.
+#[derive(Drop)]
+pub struct Piece {
+    bytes: Vec<u8>,
+    given: usize,
+    ghost within: { given ≤ vec_len bytes },
+    ghost most: { vec_len bytes ≤ 1048576 },
+    ghost room: { 1048576 ≤ vec_capacity bytes },
+}
+
+impl Piece {
+    /// No bytes, and room for a full piece.
+    pub fn new(alloc: Global) -> Result<Piece, AllocError> {
+        Ok(Piece {
+            bytes: Vec::with_capacity(alloc, PIECE)?,
+            given: 0,
+        })
+    }
+
+    /// Whether all its bytes were given out.
+    #[inline(always)]
+    pub fn is_empty(&self) -> bool {
+        self.given == self.bytes.len()
+    }
+
+    /// Whether it has as many bytes as a piece can have, and none was given out.
+    pub fn is_full(&self) -> bool {
+        self.given == 0 && self.bytes.len() == PIECE
+    }
+
+    /// Gives its next bytes to the front of `buf`, as far as there is room, and answers how many.
+    #[inline(always)]
+    pub fn give(&mut self, buf: &mut [u8]) -> usize
+        ensures { result ≤ length buf.old }
+    {
+        let n = buf.len().min(self.bytes.len() - self.given);
+        buf[..n].copy_from_slice(&self.bytes[self.given..self.given + n]);
+        self.given += n;
+        n
+    }
+
+    /// Takes bytes behind those that it has, as far as there is room, and answers how many.
+    #[inline(always)]
+    pub fn take(&mut self, bytes: &[u8]) -> usize
+        ensures { result ≤ length bytes.now }
+    {
+        let n = bytes.len().min(PIECE - self.bytes.len());
+        let Ok(()) = self.bytes.extend_from_slice(&bytes[..n]) else {
+            unreachable!()
+        };
+        n
+    }
+
+    /// Has the next bytes of a file in place of its own: so many that it is full, or those before the end of the file or
+    /// a read that fails. Whether no read failed.
+    pub fn fill(&mut self, file: &mut File) -> bool {
+        self.given = 0;
+        let Ok(()) = self.bytes.resize(PIECE, 0) else {
+            unreachable!()
+        };
+        let (count, well) = read_full(file, &mut self.bytes);
+        self.bytes.truncate(count);
+        well
+    }
+
+    /// Writes its bytes to a file, and has none then. Whether that went well.
+    pub fn write(&mut self, file: &mut File) -> bool {
+        let well = file.write_all(&self.bytes).is_ok();
+        self.given = 0;
+        self.bytes.clear();
+        well
+    }
+}
+
+// Reads until the buffer is full, the file ends or a read fails: how many bytes, and whether none failed. Where a signal
+// interrupts a read, it is made again.
+fn read_full(file: &mut File, buf: &mut [u8]) -> (usize, bool) {
+    let mut count = 0;
+    for _ in 0..u64::MAX {
+        if count >= buf.len() {
+            break;
+        }
+        match file.read(&mut buf[count..]) {
+            Ok(0) => break,
+            Ok(n) => count += n,
+            Err(error) if error.kind() == ErrorKind::Interrupted => {}
+            Err(_) => return (count, false),
+        }
+    }
+    (count, true)
+}
