@@ -33,6 +33,7 @@ use Rattle.qos_profile.specs.Lookups.{number_or, number_at, value_at, facts_at}
 use Rattle.qos_profile.specs.Across.{keeps_period, rate_at, is_at_most, keeps_kind, keeps_ranges, across_line}
 use Rattle.qos_profile.specs.Large.{room_with, pipes_in, room_in, meters_in, first_above, too_large}
 use Rattle.qos_profile.specs.Large as large
+use Rattle.qos_profile.specs.Planned.{pool_of}
 use Rattle.qos_profile.specs.Printed.{Part, sections_from, kind_number, size_told, gives, number_fact, value_fact, shaping_facts, meter_rate_facts, other_rate_facts, pool_part, port_part, subport_kind_part, pipe_kind_part, subport_part, subport_parts, codes_part, meter_part, rule_part, parts_of, printed_sections}
 use Rattle.qos_profile.specs.Forms.{HasSizes, KeepsForms}
 use Rattle.qos_profile.proofs.PlanParts.{all-at}
@@ -278,7 +279,7 @@ all-meters (m ∷ ms) =
     sum_by-cons (λ q. meters_in q.head) (meter_part m) (map meter_part ms) ∙ (let rest = all-meters ms in omega arith)
 
 pub nothing-large : (p : Plan) → KeepsLimits p → KeepsForms p → too_large (printed_sections p) ≡ None
-unfolding too_large
+unfolding too_large pool_of
 nothing-large p lim form =
     let sections = printed_sections p in
     let queues : large.queue_total sections ≡ plan.queue_total p.ports + 0 = rooms-sum 1 (parts_of p) ∙ counted room_of p (plan.queue_total p.ports) 0 (record {

@@ -15,7 +15,7 @@ use Rattle.qos_profile.specs.Sections.{same_head}
 use Rattle.qos_profile.specs.Lookups.{number_at, is_there, facts_at}
 use Rattle.qos_profile.specs.Missing.{ports_to}
 use Rattle.qos_profile.specs.Planned.{subport_of, subports_of, port_of, port_count, ports_of, subport_kinds_of, pipe_kinds_of}
-use Rattle.qos_profile.specs.Fits.{FitsPort, FitPorts}
+use Rattle.qos_profile.specs.Fits.{FitsWithSubports, FitPorts}
 use Rattle.qos_profile.proofs.Sound.{IsSound, IsSoundIn, EachSection, sound-at, same-head}
 use Rattle.qos_profile.proofs.PartLimits.{port-numbers}
 use Rattle.qos_profile.proofs.SubportLimits.{subport-limits}
@@ -104,7 +104,7 @@ pub subport-there : (ss : List Section) (p k : ℕ) → IsSound ss → is_there 
 subport-there ss p k sound there below =
     test-below (λ i. is_there ss (heads.Subport p i)) (number_at (facts_at ss (heads.Port p)) 1 0 0) k (sound-at ss (heads.Port p) sound refl there).sound.subports below
 
-port-limits : (ss : List Section) (p : ℕ) → IsSound ss → p < port_count ss → IsPort (subport_kinds_of ss) (pipe_kinds_of ss) (port_of ss p (facts_at ss (heads.Port p))) × FitsPort ss p (facts_at ss (heads.Port p))
+port-limits : (ss : List Section) (p : ℕ) → IsSound ss → p < port_count ss → IsPort (subport_kinds_of ss) (pipe_kinds_of ss) (port_of ss p (facts_at ss (heads.Port p))) × FitsWithSubports ss p (facts_at ss (heads.Port p))
 unfolding port_of
 port-limits ss p sound below =
     let there = port-there ss p sound below in
@@ -122,7 +122,7 @@ port-limits ss p sound below =
         subports = subst (Within 1 8) (sym count) n.subports;
         each = each-below (IsSubport (subport_kinds_of ss) (pipe_kinds_of ss)) (λ k. subport_of (facts_at ss (heads.Subport p k))) (number_at facts 1 0 0) (λ k low. (subport-limits ss p k sound (subport-there ss p k sound there low)).0);
       },
-      record { overhead = n.overhead.1; mtu = n.mtu.1; burst = n.burst.1; subports = λ k low. (subport-limits ss p k sound (subport-there ss p k sound there low)).1 },
+      (record { overhead = n.overhead.1; mtu = n.mtu.1; burst = n.burst.1 }, λ k low. (subport-limits ss p k sound (subport-there ss p k sound there low)).1),
     )
 
 pub ports-limits : (ss : List Section) → IsSound ss → All (IsPort (subport_kinds_of ss) (pipe_kinds_of ss)) (ports_of ss)

@@ -3,6 +3,7 @@ use Rattle.std.specs.Prelude.{◌≡◌, ℕ, ◌<◌, ◌≤◌, true, List, le
 use Rattle.code_table.specs.Entry.{IsValid}
 use Rattle.code_table.specs.declared.entry.Entry.{Entry}
 use Rattle.profile_plan.specs.Limits.{IsPool, IsVlan}
+use Rattle.profile_plan.specs.declared.port.PortPlan.{PortPlan}
 use Rattle.profile_plan.specs.declared.port.SubportPlan.{SubportPlan}
 use Rattle.profile_plan.specs.declared.shaping.PipeKind.{PipeKind}
 use Rattle.profile_plan.specs.declared.rule.PipeChoice.{PipeChoice}
@@ -13,7 +14,7 @@ use Rattle.qos_profile.specs.declared.fact.Fact.{Fact}
 use Rattle.qos_profile.specs.declared.head.Head.TheVariants as heads
 use Rattle.qos_profile.specs.declared.section.Section.{Section}
 use Rattle.qos_profile.specs.Lookups.{value_at, number_at, is_there, facts_at}
-use Rattle.qos_profile.specs.Planned.{pool_of, pipe_kind_of, subport_of, port_count, rule_of}
+use Rattle.qos_profile.specs.Planned.{pool_of, pipe_kind_of, subport_of, port_of, port_count, rule_of}
 
 -- a subport names profiles by their numbers
 pub record FitsSubport (s : SubportPlan) : Type 0 where
@@ -25,12 +26,11 @@ pub record FitsSubport (s : SubportPlan) : Type 0 where
 abbrev pub FitSubports : List Section → ℕ → ℕ → Type 0
 FitSubports sections port count = (k : ℕ) → k < count → FitsSubport (subport_of (facts_at sections (heads.Subport port k)))
 
--- a port, by the facts of its section
-pub record FitsPort (sections : List Section) (number : ℕ) (facts : List Fact) : Type 0 where
-  pub overhead : number_at facts 2 0 24 ≤ 255
-  pub mtu : number_at facts 3 0 1522 ≤ 262144
-  pub burst : number_at facts 4 0 32 ≤ 256
-  pub subports : FitSubports sections number (number_at facts 1 0 0)
+-- a port's own numbers
+pub record FitsPort (p : PortPlan) : Type 0 where
+  pub overhead : p.overhead ≤ 255
+  pub mtu : p.mtu ≤ 262144
+  pub burst : p.burst ≤ 256
 
 -- a pipe profile's weight fits a byte
 abbrev pub FitsKind : PipeKind → Type 0
@@ -54,9 +54,14 @@ pub record FitsRule (r : RulePlan) : Type 0 where
 abbrev pub FitCodes : List Fact → Type 0
 FitCodes facts = (code : ℕ) (entry : Entry) → value_at facts 0 code ≡ Some (values.Entry entry) → IsValid entry
 
--- each port, pipe profile and rule that is there
+-- a port with its subports, by the facts of its section
+abbrev pub FitsWithSubports : List Section → ℕ → List Fact → Type 0
+FitsWithSubports sections number facts =
+    FitsPort (port_of sections number facts) × FitSubports sections number (number_at facts 1 0 0)
+
+-- each port that is there
 abbrev pub FitPorts : List Section → Type 0
-FitPorts sections = (n : ℕ) → n < port_count sections → FitsPort sections n (facts_at sections (heads.Port n))
+FitPorts sections = (n : ℕ) → n < port_count sections → FitsWithSubports sections n (facts_at sections (heads.Port n))
 
 -- each pipe profile that is there
 abbrev pub FitKinds : List Section → Type 0

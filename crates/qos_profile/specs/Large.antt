@@ -9,6 +9,7 @@ use Rattle.qos_profile.specs.declared.head.Head.{Head}
 use Rattle.qos_profile.specs.declared.head.Head.TheVariants as heads
 use Rattle.qos_profile.specs.declared.section.Section.{Section}
 use Rattle.qos_profile.specs.Lookups.{value_at, number_at, facts_at}
+use Rattle.qos_profile.specs.Planned.{pool_of}
 
 -- the packets that a pipe's sixteen queues hold: the last size is that of four queues
 abbrev pub pipe_room : List ℕ → ℕ
@@ -38,7 +39,7 @@ pipe_total sections = sum_by (λ s. pipes_in s.head s.facts) sections
 
 -- the bytes of all slots
 abbrev pub slot_total : List Fact → ℕ
-slot_total facts = min 1048576 (number_at facts 0 0 65536) * min 262144 (number_at facts 1 0 2048)
+slot_total facts = min 1048576 (pool_of facts).slots * min 262144 (pool_of facts).slot_bytes
 
 -- a section is a meter, or none
 abbrev pub meters_in : Head → ℕ

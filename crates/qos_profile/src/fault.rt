@@ -32,7 +32,7 @@ impl fmt::Display for FaultKind {
             FaultKind::NotText => "a byte that is no text",
             FaultKind::BadLine => "neither a section nor a key that can stand here",
             FaultKind::UnknownKey => "a section or key that is not listed here",
-            FaultKind::BadNumber => "no such number, word or list",
+            FaultKind::BadNumber => "no number, word or list where one is due",
             FaultKind::OutOfRange => "a number out of its range",
             FaultKind::Twice => "given a second time",
             FaultKind::Missing => "something required is missing",

@@ -2,6 +2,7 @@
 ghost use Rattle.std.specs.Prelude.{◌≡◌, ◌≤◌, ◌^◌, length};
 ghost use Rattle.qos_profile.specs.Large.{pipe_room, room_with, pipes_in, room_in, queue_total, pipe_total, slot_total, meters_in, meter_total, first_above, too_large};
 
+use crate::defaults::{SLOT_BYTES, SLOTS};
 use crate::fact::Fact;
 use crate::head::Head;
 use crate::lookup::{facts_at, number_at, value_at};
@@ -69,11 +70,12 @@ fn pipe_total(sections: &[Section]) -> u64
     total
 }
 
+#[tactic(auto, unfolding(crate::specs::Planned::pool_of))]
 fn slot_total(facts: &[Fact]) -> u64
     ensures { result ≡ slot_total facts.now }
 {
-    let slots = number_at(facts, 0, 0, 65_536).min(1_048_576);
-    let bytes = number_at(facts, 1, 0, 2_048).min(262_144);
+    let slots = number_at(facts, 0, 0, SLOTS).min(1_048_576);
+    let bytes = number_at(facts, 1, 0, SLOT_BYTES).min(262_144);
     slots * bytes
 }
 

@@ -7,6 +7,7 @@
 mod across;
 mod build;
 mod checking;
+mod defaults;
 mod fact;
 mod fault;
 mod forms;

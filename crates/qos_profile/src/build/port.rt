@@ -1,10 +1,11 @@
 //! The ports, by number, and their subports.
 ghost use Rattle.std.specs.Prelude.{◌≡◌, IfOk};
-ghost use Rattle.qos_profile.specs.Lookups.{facts_at};
+ghost use Rattle.qos_profile.specs.Lookups.{number_at, facts_at};
 ghost use Rattle.qos_profile.specs.Fits.{FitSubports, FitsPort, FitPorts};
 ghost use Rattle.qos_profile.specs.Planned.{drain_of, subports_of, port_of, port_count, ports_of};
 
 use crate::build::subport::subport;
+use crate::defaults::{BURST, DRAIN_MS, FRAME_OVERHEAD, MTU, QUANTUM};
 use crate::fact::Fact;
 use crate::head::Head;
 use crate::list::add;
@@ -22,7 +23,7 @@ fn drain(facts: &[Fact]) -> Span
     if has(facts, 6, 0) {
         Span::Bytes(number_at(facts, 6, 0, 0))
     } else {
-        Span::Ms(number_at(facts, 6, 2, 1_000))
+        Span::Ms(number_at(facts, 6, 2, DRAIN_MS))
     }
 }
 
@@ -50,16 +51,17 @@ fn port(
     number: u64,
     facts: &[Fact],
 ) -> Result<PortPlan, NoMemory>
-    requires { FitsPort sections.now number facts.now }
+    requires numbers { FitsPort (port_of sections.now number facts.now) }
+    requires subports { FitSubports sections.now number (number_at facts.now 1 0 0) }
     ensures { IfOk result (λ port. port ≡ port_of sections.now number facts.now) }
 {
     let subports = subports(alloc, sections, number, number_at(facts, 1, 0, 0))?;
     Ok(PortPlan {
         line: number_at(facts, 0, 0, 0),
-        overhead: number_at(facts, 2, 0, 24) as u32,
-        mtu: number_at(facts, 3, 0, 1_522) as u32,
-        burst: number_at(facts, 4, 0, 32) as u32,
-        quantum: number_at(facts, 5, 0, 65_536),
+        overhead: number_at(facts, 2, 0, FRAME_OVERHEAD) as u32,
+        mtu: number_at(facts, 3, 0, MTU) as u32,
+        burst: number_at(facts, 4, 0, BURST) as u32,
+        quantum: number_at(facts, 5, 0, QUANTUM),
         drain: drain(facts),
         subports,
     })
