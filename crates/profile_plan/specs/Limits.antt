@@ -3,6 +3,7 @@ use Rattle.std.specs.Prelude.{◌≡◌, ◌==◌, ℕ, ◌+◌, ◌*◌, ◌-�
 use Rattle.std.specs.List.{list_all}
 use Rattle.code_table.specs.Entry.{IsValid}
 use Rattle.profile_plan.specs.Meter.{periods_of, IsAtMost}
+use Rattle.profile_plan.specs.declared.limits.TheConstants.{MAX_SLOTS, MAX_SLOT_BYTES, MAX_POOL_BYTES}
 use Rattle.profile_plan.specs.declared.port.PoolPlan.{PoolPlan}
 use Rattle.profile_plan.specs.declared.port.Span.{Span}
 use Rattle.profile_plan.specs.declared.port.Span.TheVariants.{Bytes, Ms}
@@ -28,10 +29,10 @@ Within least most n = (least ≤ n) × (n ≤ most)
 
 -- the pool: its parts, and all its slots together
 pub record IsPool (p : PoolPlan) : Type 0 where
-  pub slots : Within 1 1048576 p.slots
-  pub slot_bytes : Within 64 262144 p.slot_bytes
+  pub slots : Within 1 MAX_SLOTS p.slots
+  pub slot_bytes : Within 64 MAX_SLOT_BYTES p.slot_bytes
   pub ring : Within 1 65536 p.ring
-  pub product : p.slots * p.slot_bytes ≤ 2 ^ 31
+  pub product : p.slots * p.slot_bytes ≤ MAX_POOL_BYTES
 
 -- a drain: byte times, or milliseconds
 abbrev pub IsSpan : Span → Type 0

@@ -8,6 +8,7 @@ use Rattle.code_table.specs.declared.entry.Entry.{Entry}
 use Rattle.code_table.specs.Entry.{IsValid}
 use Rattle.qos_base.specs.Time.{IsLineRate}
 use Rattle.profile_plan.specs.Limits.{Within, IsPool, IsSpan, IsShaping, IsPipeKind, IsMeter, IsVlan, IsPrefix, IsCode}
+use Rattle.profile_plan.specs.declared.limits.TheConstants.{MAX_MTU, MAX_QUEUE, MAX_QUEUED, MAX_SUBPORT_PIPES, MAX_PIPES, MAX_METERS}
 use Rattle.profile_plan.specs.declared.port.PoolPlan.{PoolPlan}
 use Rattle.profile_plan.specs.declared.port.PortPlan.{PortPlan}
 use Rattle.profile_plan.specs.declared.port.SubportPlan.{SubportPlan}
@@ -60,15 +61,15 @@ pipe_total ports = sum_by (λ port. sum_by (λ s. length s.pipes) port.subports)
 -- a subport: its profile and those of its pipes are there
 pub record IsSubport (subport_kinds : List (ℕ × Shaping)) (pipe_kinds : List PipeKind) (s : SubportPlan) : Type 0 where
   pub kind : IsSome (subport_kind_of subport_kinds s.kind)
-  pub sizes : All (λ n. n ≤ 65536) s.sizes
-  pub pipes : Within 1 4096 (length s.pipes)
+  pub sizes : All (λ n. n ≤ MAX_QUEUE) s.sizes
+  pub pipes : Within 1 MAX_SUBPORT_PIPES (length s.pipes)
   pub each_pipe : All (λ n. IsSome (pipe_kind_of pipe_kinds n)) s.pipes
 
 -- a port and its subports
 pub record IsPort (subport_kinds : List (ℕ × Shaping)) (pipe_kinds : List PipeKind) (p : PortPlan) : Type 0 where
   pub line : IsLineRate p.line
   pub overhead : p.overhead ≤ 255
-  pub mtu : Within 60 262144 p.mtu
+  pub mtu : Within 60 MAX_MTU p.mtu
   pub burst : Within 1 256 p.burst
   pub quantum : Within 1 1000000000 p.quantum
   pub drain : IsSpan p.drain
@@ -103,8 +104,8 @@ pub record KeepsLimits (p : Plan) : Type 0 where
   pub pool : IsPool p.pool
   pub ports : Within 1 16 (length p.ports)
   pub each_port : All (IsPort p.subport_kinds p.pipe_kinds) p.ports
-  pub pipes : pipe_total p.ports ≤ 65536
-  pub queues : queue_total p.ports ≤ 4194304
+  pub pipes : pipe_total p.ports ≤ MAX_PIPES
+  pub queues : queue_total p.ports ≤ MAX_QUEUED
   pub subport_kinds : All (λ kind. (kind.0 ≤ 63) × IsShaping kind.1) p.subport_kinds
   pub subport_kinds_order : IsStrictlyIncreasing (map (λ kind. kind.0) p.subport_kinds)
   pub pipe_kinds : All IsPipeKind p.pipe_kinds
@@ -112,7 +113,7 @@ pub record KeepsLimits (p : Plan) : Type 0 where
   pub codes : All IsValid p.codes
   pub code_count : length p.codes ≡ 64
   pub meters : All IsMeter p.meters
-  pub meter_count : length p.meters ≤ 64
+  pub meter_count : length p.meters ≤ MAX_METERS
   pub meter_names : have_names_apart p.meters ≡ true
   pub rules : All (IsRule p.ports p.meters) p.rules
   pub rules_order : IsStrictlyIncreasing (map (λ rule. rule.number) p.rules)

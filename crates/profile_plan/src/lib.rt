@@ -6,12 +6,17 @@
 //! and the exact whole-period numbers of a shaping at a line.
 #![tactic(auto)]
 
+mod limits;
 mod meter;
 mod port;
 mod profile;
 mod rule;
 mod shaping;
 
+pub use limits::{
+    MAX_METERS, MAX_MTU, MAX_PIPES, MAX_POOL_BYTES, MAX_QUEUE, MAX_QUEUED, MAX_SLOT_BYTES,
+    MAX_SLOTS, MAX_SUBPORT_PIPES,
+};
 pub use meter::{MeterKind, MeterPlan, MeterRate};
 pub use port::{PoolPlan, PortPlan, Span, SubportPlan};
 pub use profile::Profile;

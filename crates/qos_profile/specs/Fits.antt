@@ -3,6 +3,7 @@ use Rattle.std.specs.Prelude.{◌≡◌, ℕ, ◌<◌, ◌≤◌, true, List, le
 use Rattle.code_table.specs.Entry.{IsValid}
 use Rattle.code_table.specs.declared.entry.Entry.{Entry}
 use Rattle.profile_plan.specs.Limits.{IsPool, IsVlan}
+use Rattle.profile_plan.specs.declared.limits.TheConstants.{MAX_MTU, MAX_SUBPORT_PIPES}
 use Rattle.profile_plan.specs.declared.port.PortPlan.{PortPlan}
 use Rattle.profile_plan.specs.declared.port.SubportPlan.{SubportPlan}
 use Rattle.profile_plan.specs.declared.shaping.PipeKind.{PipeKind}
@@ -19,7 +20,7 @@ use Rattle.qos_profile.specs.Planned.{pool_of, pipe_kind_of, subport_of, port_of
 -- a subport names profiles by their numbers
 pub record FitsSubport (s : SubportPlan) : Type 0 where
   pub kind : s.kind ≤ 63
-  pub count : length s.pipes ≤ 4096
+  pub count : length s.pipes ≤ MAX_SUBPORT_PIPES
   pub pipes : All (λ n. n ≤ 255) s.pipes
 
 -- each subport of a port
@@ -29,7 +30,7 @@ FitSubports sections port count = (k : ℕ) → k < count → FitsSubport (subpo
 -- a port's own numbers
 pub record FitsPort (p : PortPlan) : Type 0 where
   pub overhead : p.overhead ≤ 255
-  pub mtu : p.mtu ≤ 262144
+  pub mtu : p.mtu ≤ MAX_MTU
   pub burst : p.burst ≤ 256
 
 -- a pipe profile's weight fits a byte

@@ -2,6 +2,7 @@
 -- ranges, which stand here again so that no total can wrap.
 use Rattle.std.specs.Prelude.{ℕ, ◌+◌, ◌*◌, ◌^◌, nat_lt, min, if◌then◌else◌, List, slice_index, Option, None, Some}
 use Rattle.std.specs.List.{sum_by}
+use Rattle.profile_plan.specs.declared.limits.TheConstants.{MAX_SLOTS, MAX_SLOT_BYTES, MAX_QUEUE, MAX_SUBPORT_PIPES}
 use Rattle.qos_profile.specs.declared.value.Value.{Value}
 use Rattle.qos_profile.specs.declared.value.Value.TheVariants as values
 use Rattle.qos_profile.specs.declared.fact.Fact.{Fact}
@@ -13,7 +14,7 @@ use Rattle.qos_profile.specs.Planned.{pool_of}
 
 -- the packets that a pipe's sixteen queues hold: the last size is that of four queues
 abbrev pub pipe_room : List ℕ → ℕ
-pipe_room sizes = sum_by (min 65536) sizes + 3 * min 65536 (slice_index sizes 12)
+pipe_room sizes = sum_by (min MAX_QUEUE) sizes + 3 * min MAX_QUEUE (slice_index sizes 12)
 
 -- the packets of a pipe's queues by their sizes
 abbrev pub room_with : Option Value → ℕ
@@ -22,7 +23,7 @@ room_with _ = 0
 
 -- the pipes of a subport section
 abbrev pub pipes_in : Head → List Fact → ℕ
-pipes_in (heads.Subport p k) facts = min 4096 (number_at facts 1 0 0)
+pipes_in (heads.Subport p k) facts = min MAX_SUBPORT_PIPES (number_at facts 1 0 0)
 pipes_in _ facts = 0
 
 -- the packets that all queues of a subport section hold
@@ -39,7 +40,7 @@ pipe_total sections = sum_by (λ s. pipes_in s.head s.facts) sections
 
 -- the bytes of all slots
 abbrev pub slot_total : List Fact → ℕ
-slot_total facts = min 1048576 (pool_of facts).slots * min 262144 (pool_of facts).slot_bytes
+slot_total facts = min MAX_SLOTS (pool_of facts).slots * min MAX_SLOT_BYTES (pool_of facts).slot_bytes
 
 -- a section is a meter, or none
 abbrev pub meters_in : Head → ℕ

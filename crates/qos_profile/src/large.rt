@@ -1,5 +1,5 @@
 //! What is too large in the whole.
-ghost use Rattle.std.specs.Prelude.{◌≡◌, ◌≤◌, ◌^◌, length};
+ghost use Rattle.std.specs.Prelude.{◌≡◌, ◌≤◌, ◌*◌, ◌^◌, length};
 ghost use Rattle.qos_profile.specs.Large.{pipe_room, room_with, pipes_in, room_in, queue_total, pipe_total, slot_total, meters_in, meter_total, first_above, too_large};
 
 use crate::defaults::{SLOT_BYTES, SLOTS};
@@ -8,21 +8,25 @@ use crate::head::Head;
 use crate::lookup::{facts_at, number_at, value_at};
 use crate::section::Section;
 use crate::value::Value;
+use profile_plan::{
+    MAX_METERS, MAX_PIPES, MAX_POOL_BYTES, MAX_QUEUE, MAX_QUEUED, MAX_SLOT_BYTES, MAX_SLOTS,
+    MAX_SUBPORT_PIPES,
+};
 
 fn pipe_room(sizes: &[u32; 13]) -> u64
     ensures value { result ≡ pipe_room sizes.now }
-    ensures within { result ≤ 1048576 }
+    ensures within { result ≤ 16 * MAX_QUEUE }
 {
     let mut room: u64 = 0;
     for size in sizes {
-        room += u64::from(*size).min(65_536);
+        room += u64::from(*size).min(MAX_QUEUE);
     }
-    room + 3 * u64::from(sizes[12]).min(65_536)
+    room + 3 * u64::from(sizes[12]).min(MAX_QUEUE)
 }
 
 fn room_with(sizes: Option<Value>) -> u64
     ensures value { result ≡ room_with sizes }
-    ensures within { result ≤ 1048576 }
+    ensures within { result ≤ 16 * MAX_QUEUE }
 {
     match sizes {
         Some(Value::Sizes(sizes)) => pipe_room(&sizes),
@@ -32,10 +36,10 @@ fn room_with(sizes: Option<Value>) -> u64
 
 fn pipes_in(head: &Head, facts: &[Fact]) -> u64
     ensures value { result ≡ pipes_in head.now facts.now }
-    ensures within { result ≤ 4096 }
+    ensures within { result ≤ MAX_SUBPORT_PIPES }
 {
     match head {
-        Head::Subport(_, _) => number_at(facts, 1, 0, 0).min(4_096),
+        Head::Subport(_, _) => number_at(facts, 1, 0, 0).min(MAX_SUBPORT_PIPES),
         _ => 0,
     }
 }
@@ -74,8 +78,8 @@ fn pipe_total(sections: &[Section]) -> u64
 fn slot_total(facts: &[Fact]) -> u64
     ensures { result ≡ slot_total facts.now }
 {
-    let slots = number_at(facts, 0, 0, SLOTS).min(1_048_576);
-    let bytes = number_at(facts, 1, 0, SLOT_BYTES).min(262_144);
+    let slots = number_at(facts, 0, 0, SLOTS).min(MAX_SLOTS);
+    let bytes = number_at(facts, 1, 0, SLOT_BYTES).min(MAX_SLOT_BYTES);
     slots * bytes
 }
 
@@ -103,13 +107,13 @@ fn meter_total(sections: &[Section]) -> u64
 fn first_above(queues: u64, pipes: u64, slots: u64, meters: u64) -> Option<u64>
     ensures { result ≡ first_above queues pipes slots meters }
 {
-    if queues > 4_194_304 {
+    if queues > MAX_QUEUED {
         Some(queues)
-    } else if pipes > 65_536 {
+    } else if pipes > MAX_PIPES {
         Some(pipes)
-    } else if slots > 1 << 31 {
+    } else if slots > MAX_POOL_BYTES {
         Some(slots)
-    } else if meters > 64 {
+    } else if meters > MAX_METERS {
         Some(meters)
     } else {
         None

@@ -2,6 +2,8 @@
 ghost use Rattle.std.specs.Prelude.{◌≡◌, map};
 ghost use Rattle.qos_profile.specs.Table.{row_view, pool_keys, port_keys, subport_kind_keys, pipe_kind_keys, subport_keys, code_keys, meter_keys, rule_keys};
 
+use profile_plan::{MAX_MTU, MAX_SLOT_BYTES, MAX_SLOTS, MAX_SUBPORT_PIPES};
+
 /// What stands in place of a key's empty word.
 #[derive(Clone, Copy)]
 pub(crate) enum Place {
@@ -76,7 +78,7 @@ static POOL: [Row; 3] = [
         first: 0,
         last: 0,
         only: Only::All,
-        shape: Shape::Number(1, 1048576),
+        shape: Shape::Number(1, MAX_SLOTS),
     },
     Row {
         words: &["slot", "bytes"],
@@ -85,7 +87,7 @@ static POOL: [Row; 3] = [
         first: 0,
         last: 0,
         only: Only::All,
-        shape: Shape::Number(64, 262144),
+        shape: Shape::Number(64, MAX_SLOT_BYTES),
     },
     Row {
         words: &["ring", "size"],
@@ -133,7 +135,7 @@ static PORT: [Row; 8] = [
         first: 0,
         last: 0,
         only: Only::All,
-        shape: Shape::Number(60, 262_144),
+        shape: Shape::Number(60, MAX_MTU),
     },
     Row {
         words: &["burst"],
@@ -340,7 +342,7 @@ static SUBPORT: [Row; 5] = [
         first: 0,
         last: 0,
         only: Only::All,
-        shape: Shape::Number(1, 4_096),
+        shape: Shape::Number(1, MAX_SUBPORT_PIPES),
     },
     Row {
         words: &["queue", "sizes"],

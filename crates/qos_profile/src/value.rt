@@ -12,7 +12,7 @@ use crate::name::Name;
 use crate::table::Shape;
 use code_table::Entry;
 use profile_lines::{cut, read_number};
-use profile_plan::Prefix;
+use profile_plan::{MAX_QUEUE, Prefix};
 use qos_base::Colour;
 
 /// A value that a key line gives.
@@ -237,12 +237,12 @@ fn number_or_zero(word: &[u8]) -> u64
 
 #[tactic(auto, unfolding(crate::specs::Values::numbers_in))]
 fn read_sizes(words: &[&[u8]]) -> Result<Value, FaultKind>
-    ensures { result ≡ as_sizes (numbers_in 13 0 65536 (map (λ w. w.now) words.now)) }
+    ensures { result ≡ as_sizes (numbers_in 13 0 MAX_QUEUE (map (λ w. w.now) words.now)) }
 {
     if !are_numbers(13, words) {
         return Err(FaultKind::BadNumber);
     }
-    if !are_within(0, 65_536, words) {
+    if !are_within(0, MAX_QUEUE, words) {
         return Err(FaultKind::OutOfRange);
     }
     Ok(Value::Sizes(sizes(words)))
@@ -250,7 +250,7 @@ fn read_sizes(words: &[&[u8]]) -> Result<Value, FaultKind>
 
 fn sizes(words: &[&[u8]]) -> [u32; 13]
     requires count { length words.now ≡ 13 }
-    requires limits { are_within 0 65536 (map (λ w. w.now) words.now) ≡ true }
+    requires limits { are_within 0 MAX_QUEUE (map (λ w. w.now) words.now) ≡ true }
     ensures { result ≡ map number_or_zero (map (λ w. w.now) words.now) }
 {
     let mut sizes = [0; 13];

@@ -1,5 +1,6 @@
 //! A subport and its pipes.
 ghost use Rattle.std.specs.Prelude.{◌≡◌, ◌+◌, ◌<◌, ◌≤◌, ℕ, Some, IfOk, length, min, nat_le, ◌&&◌, slice_index, if◌then◌else◌};
+ghost use Rattle.profile_plan.specs.declared.limits.TheConstants.{MAX_SUBPORT_PIPES};
 ghost use Rattle.qos_profile.specs.Lookups.{covers, number_or};
 ghost use Rattle.qos_profile.specs.Fits.{FitsSubport};
 ghost use Rattle.qos_profile.specs.Planned.{word_or, choice_at, sizes_or, subport_of, pipes_of};
@@ -44,7 +45,7 @@ fn end_of(last: u64, count: u64) -> u64
 
 // Writes a number at the places from the first to the last, of which some may be past the end.
 fn fill(pipes: &mut [u32], first: u64, last: u64, kind: u32)
-    requires { length pipes.old ≤ 4096 }
+    requires { length pipes.old ≤ MAX_SUBPORT_PIPES }
     ensures { (k : ℕ) → k < length pipes.old → slice_index pipes.new k ≡ (if nat_le first k && nat_le k last then kind else slice_index pipes.old k) }
 {
     let end = end_of(last, pipes.len() as u64);
@@ -55,7 +56,7 @@ fn fill(pipes: &mut [u32], first: u64, last: u64, kind: u32)
 
 // Writes a profile's number at the pipes that a line gives.
 fn give(pipes: &mut [u32], fact: &Fact)
-    requires { length pipes.old ≤ 4096 }
+    requires { length pipes.old ≤ MAX_SUBPORT_PIPES }
     ensures { (k : ℕ) → k < length pipes.old → slice_index pipes.new k ≡ (if covers 3 k fact.now then min 255 (number_or 0 (Some fact.now.value)) else slice_index pipes.old k) }
 {
     let kind = number_or(0, Some(fact.value)).min(255);
