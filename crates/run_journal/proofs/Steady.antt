@@ -5,6 +5,7 @@ use Rattle.std.proofs.lemmas.Bool.Decides.{nat_tests}
 use Rattle.std.proofs.lemmas.List.Elements.{All-nil, All-cons, All-weaker, All-contains, All-same}
 use Rattle.std.proofs.lemmas.List.Sorted.{length_permutation}
 use Rattle.qos_base.specs.declared.packet.Pkt.{Pkt}
+use Rattle.profile_plan.specs.declared.limits.TheConstants.{MAX_MTU}
 use Rattle.port_sched.specs.Parcels.{itself}
 use Rattle.port_sched.specs.Port.{Port, left_of, has_place, is_full, after_arrival}
 use Rattle.port_sched.specs.PortDequeue.{cost_with, dequeue_port}
@@ -84,7 +85,7 @@ module _ (start : Port Pkt) (arrived : ℕ) (s : Schedule) where
         }
 
 -- a port at its start, where nothing waits
-pub steady-new : (start : Port Pkt) → left_of start ≡ [] → IsPortWithin start → start.overhead ≤ 255 → start.mtu ≤ 262144 → start.time ≡ 0 → IsSteady start 0 (at_start start)
+pub steady-new : (start : Port Pkt) → left_of start ≡ [] → IsPortWithin start → start.overhead ≤ 255 → start.mtu ≤ MAX_MTU → start.time ≡ 0 → IsSteady start 0 (at_start start)
 steady-new start none within overhead mtu time =
     let nothing = ap length none in
     record {

@@ -3,6 +3,7 @@ use Rattle.std.specs.Prelude.{◌≡◌, ◌≤◌, ◌^◌, ℕ, ◌+◌, ◌*�
 use Rattle.std.specs.Option.{option_map}
 use Rattle.qos_base.specs.declared.packet.Pkt.{Pkt}
 use Rattle.qos_base.specs.declared.packet.Departure.{Departure}
+use Rattle.profile_plan.specs.declared.limits.TheConstants.{MAX_MTU}
 use Rattle.profile_plan.specs.declared.port.PortPlan.{PortPlan}
 use Rattle.profile_plan.specs.Profile.{Plan}
 use Rattle.port_sched.specs.Parcels.{seen_send}
@@ -68,7 +69,7 @@ pub record HasCounts (journal : List Entry) (schedule : Schedule) (counts : Port
 -- A schedule that has come from this start by so many arrivals: no packet was lost, and port time is far from its end.
 pub record IsSteady (start : Port Pkt) (arrived : ℕ) (s : Schedule) : Type 0 where
   pub overhead : start.overhead ≤ 255
-  pub mtu : start.mtu ≤ 262144
+  pub mtu : start.mtu ≤ MAX_MTU
   pub setting : setting_of s.port ≡ setting_of start
   pub within : IsPortWithin s.port
   -- each packet that arrived was sent, waits or was turned away
