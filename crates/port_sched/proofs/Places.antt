@@ -9,7 +9,7 @@ use Rattle.std.proofs.Math.Seq.{map-set_same}
 use Rattle.std.specs.Vec.{with_item}
 use Rattle.qos_base.specs.declared.packet.Pkt.{Pkt}
 use Rattle.queue_store.specs.Queues.{list_of, without_front}
-use Rattle.port_sched.specs.declared.serving.TheConstants.{MAX_WIRE}
+use Rattle.profile_plan.specs.declared.limits.TheConstants.{MAX_MTU}
 use Rattle.port_sched.specs.declared.pipe.PipeBooks.{PipeBooks}
 use Rattle.port_sched.specs.declared.subport.SubportBooks.{SubportBooks}
 use Rattle.port_sched.specs.Pipe.{Pipe, has_packet}
@@ -116,11 +116,11 @@ module _ {T : Type 0} (packet : T → Pkt) (ticked : ℕ) where
   pub pipe-drained : (p : PipeBooks T) (queue : ℕ) → queue < length p.queues.lists → IsPipeBooks packet ticked p → IsPipeBooks packet ticked (record p { queues = without_front queue p.queues })
   pipe-drained p queue inside was =
       let lists = p.queues.lists in
-      let short = λ (ts : List T). All (λ t. (packet t).wire ≤ MAX_WIRE) ts in
+      let short = λ (ts : List T). All (λ t. (packet t).wire ≤ MAX_MTU) ts in
       record {
         level = was.level;
         lists = length-set lists queue (drop 1 (list_of queue p.queues)) ∙ was.lists;
         sizes = was.sizes;
         short = All-set short lists queue (drop 1 (list_of queue p.queues))
-            (All-drop (λ t. (packet t).wire ≤ MAX_WIRE) 1 (list_of queue p.queues) (All-get_or short lists queue [] inside was.short)) was.short;
+            (All-drop (λ t. (packet t).wire ≤ MAX_MTU) 1 (list_of queue p.queues) (All-get_or short lists queue [] inside was.short)) was.short;
       }

@@ -6,7 +6,7 @@ use Rattle.std.proofs.lemmas.List.{take_more, map_push, length-map}
 use Rattle.std.proofs.lemmas.List.Elements.{filter_map-append, All-map, All-push}
 use Rattle.qos_base.specs.declared.packet.Pkt.{Pkt}
 use Rattle.queue_store.specs.Queues.{Queues, empty_queues, has_packet as some_filled}
-use Rattle.port_sched.specs.declared.serving.TheConstants.{MAX_WIRE}
+use Rattle.profile_plan.specs.declared.limits.TheConstants.{MAX_MTU}
 use Rattle.profile_plan.specs.declared.shaping.PipeKind.{PipeKind}
 use Rattle.profile_plan.specs.declared.shaping.Whole.{Whole}
 use Rattle.profile_plan.specs.Profile.{pipe_kind_of}
@@ -48,7 +48,7 @@ All-pushed P items grown b pushed so_far holds = subst (All P) (sym pushed) (All
 pub record AreNewQueues {T : Type 0} (packet : T → Pkt) (q : Queues T) : Type 0 where
   pub lists : length q.lists ≡ 16
   pub sizes : length q.sizes ≡ 16
-  pub short : All (λ ts. All (λ t. (packet t).wire ≤ MAX_WIRE) ts) q.lists
+  pub short : All (λ ts. All (λ t. (packet t).wire ≤ MAX_MTU) ts) q.lists
 
 pub new-queues :
     {T : Type 0} (packet : T → Pkt) (sizes : List ℕ) (q : Queues T) → q ≡ empty_queues sizes → length sizes ≡ 16 →
@@ -58,8 +58,8 @@ new-queues {T} packet sizes q is sixteen =
     record {
       lists = ap length lists ∙ length-map sizes (λ _. []) ∙ sixteen;
       sizes = ap (λ (s : Queues T). length s.sizes) is ∙ sixteen;
-      short = subst (All (λ ts. All (λ t. (packet t).wire ≤ MAX_WIRE) ts)) (sym lists)
-          (All-map (λ ts. All (λ t. (packet t).wire ≤ MAX_WIRE) ts) (λ _. []) sizes (λ k d inside j e none. absurd (omega arith)));
+      short = subst (All (λ ts. All (λ t. (packet t).wire ≤ MAX_MTU) ts)) (sym lists)
+          (All-map (λ ts. All (λ t. (packet t).wire ≤ MAX_MTU) ts) (λ _. []) sizes (λ k d inside j e none. absurd (omega arith)));
     }
 
 module _ (kinds : List PipeKind) (line : ℕ) (plan : Whole) (numbers : List ℕ) where

@@ -6,7 +6,7 @@ use Rattle.std.proofs.lemmas.Option.{slice_get-map, slice_get_read}
 use Rattle.qos_base.specs.declared.packet.Pkt.{Pkt}
 use Rattle.std.proofs.lemmas.List.Elements.{All-set, All-drop}
 use Rattle.queue_store.specs.Queues.{Queues, list_of, without_front}
-use Rattle.port_sched.specs.declared.serving.TheConstants.{MAX_WIRE}
+use Rattle.profile_plan.specs.declared.limits.TheConstants.{MAX_MTU}
 use Rattle.port_sched.specs.declared.pipe.PipeBooks.{PipeBooks}
 use Rattle.port_sched.specs.declared.level.LevelBooks.{LevelBooks}
 use Rattle.port_sched.specs.Pipe.{Pipe}
@@ -72,7 +72,7 @@ module _ {T : Type 0} (packet : T → Pkt) where
   AreQueues-without_front queue queues within are =
       let count = length-set queues.lists queue (drop 1 (list_of queue queues)) in
       let was = are.lists in
-      let P : T → Type 0 = λ t. (packet t).wire ≤ MAX_WIRE in
+      let P : T → Type 0 = λ t. (packet t).wire ≤ MAX_MTU in
       record {
         lists = omega arith;
         sizes = are.sizes;

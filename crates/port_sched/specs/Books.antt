@@ -8,7 +8,7 @@ use Rattle.port_sched.specs.declared.level.LevelBooks.{LevelBooks}
 use Rattle.port_sched.specs.declared.pipe.PipeBooks.{PipeBooks}
 use Rattle.port_sched.specs.declared.subport.SubportBooks.{SubportBooks}
 use Rattle.port_sched.specs.declared.serving.Serving.{Serving}
-use Rattle.port_sched.specs.declared.serving.TheConstants.{MAX_WIRE}
+use Rattle.profile_plan.specs.declared.limits.TheConstants.{MAX_MTU, MAX_SUBPORT_PIPES}
 use Rattle.port_sched.specs.Level.{Level, level_tick}
 use Rattle.port_sched.specs.Pipe.{Pipe, has_packet}
 use Rattle.port_sched.specs.Subport.{Subport}
@@ -103,12 +103,12 @@ module _ {T : Type 0} where
       pub level : IsLevelBooks ticked p.level
       pub lists : length p.queues.lists ≡ 16
       pub sizes : length p.queues.sizes ≡ 16
-      pub short : All (λ ts. All (λ t. (packet t).wire ≤ MAX_WIRE) ts) p.queues.lists
+      pub short : All (λ ts. All (λ t. (packet t).wire ≤ MAX_MTU) ts) p.queues.lists
 
     pub record IsSubportBooks (ticked : ℕ) (s : SubportBooks T) : Type 0 where
       pub level : IsLevelBooks ticked s.level
       pub cursor : s.cursor < length s.pipes.items
-      pub few : length s.pipes.items ≤ 4096
+      pub few : length s.pipes.items ≤ MAX_SUBPORT_PIPES
       -- each renewal puts the next one off by at least 1
       pub periods : s.period < s.level.classes.due
       pub pipes : All (IsPipeBooks ticked) s.pipes.items

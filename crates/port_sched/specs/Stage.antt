@@ -2,13 +2,13 @@
 use Rattle.std.specs.Prelude.{◌≡◌, ℕ, ◌+◌, ◌-◌, ◌*◌, ◌≤◌, ◌<◌, length, take, drop, Vec, vec_len, vec_capacity}
 use Rattle.std.specs.declared.alloc.Global.{Global}
 use Rattle.qos_base.specs.declared.packet.Departure.{Departure}
-use Rattle.port_sched.specs.declared.serving.TheConstants.{MAX_WIRE}
+use Rattle.profile_plan.specs.declared.limits.TheConstants.{MAX_MTU}
 use Rattle.port_sched.specs.Port.{Port}
 use Rattle.port_sched.specs.PortDequeue.{Course}
 
 -- the cost of the dearest packet, in byte times: it is the longest, on the line with the greatest overhead
 abbrev pub max_cost : ℕ
-max_cost = MAX_WIRE + 255
+max_cost = MAX_MTU + 255
 
 -- where the port stands, how many packets may still be sent, and all departures so far
 pub record Stage (T : Type 0) : Type 0 where

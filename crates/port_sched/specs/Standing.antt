@@ -8,7 +8,7 @@ use Rattle.wrr_pick.specs.declared.wrr.TheConstants.{MAX_COST}
 use Rattle.port_sched.specs.declared.level.LevelBooks.{LevelBooks}
 use Rattle.port_sched.specs.declared.pipe.PipeBooks.{PipeBooks}
 use Rattle.port_sched.specs.declared.serving.Serving.{Serving}
-use Rattle.port_sched.specs.declared.serving.TheConstants.{MAX_WIRE}
+use Rattle.profile_plan.specs.declared.limits.TheConstants.{MAX_MTU}
 use Rattle.port_sched.specs.Classes.{Visit}
 use Rattle.port_sched.specs.Books.{level_of, visit_of}
 
@@ -22,7 +22,7 @@ pub record IsSameLevel (from to : LevelBooks) : Type 0 where
 pub record AreQueues {T : Type 0} (packet : T → Pkt) (queues : Queues T) : Type 0 where
   pub lists : length queues.lists ≡ 16
   pub sizes : length queues.sizes ≡ 16
-  pub short : All (λ ts. All (λ t. (packet t).wire ≤ MAX_WIRE) ts) queues.lists
+  pub short : All (λ ts. All (λ t. (packet t).wire ≤ MAX_MTU) ts) queues.lists
 
 -- the subport's level, the pipe, and the sends of the dequeue, which are those of `out` from `serving.first` on
 pub record Standing (T : Type 0) : Type 0 where

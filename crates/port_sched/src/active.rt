@@ -1,5 +1,6 @@
 //! Which pipes of a subport have a packet.
 ghost use Rattle.std.specs.Prelude.{◌≡◌, ◌+◌, ◌≤◌, ◌<◌, Bool, false, length, count_by, replicate, slice_set, IfOk};
+ghost use Rattle.profile_plan.specs.declared.limits.TheConstants.{MAX_SUBPORT_PIPES};
 ghost use Rattle.active_bitmap.specs.NextActive.{is_set, next_active};
 ghost use Rattle.active_bitmap.specs.declared.bitmap.TheConstants.{MAX_PROBES};
 
@@ -19,19 +20,20 @@ pub(crate) struct ActivePipes {
 // Contracts see the bits.
 impl Model for ActivePipes {
     ghost use Rattle.std.specs.Prelude.{◌≡◌, ◌≤◌, List, Bool, length, count_by};
+    ghost use Rattle.profile_plan.specs.declared.limits.TheConstants.{MAX_SUBPORT_PIPES};
 
     ghost Value = { List Bool };
 
     ghost view = { λ a. a.bits };
 
-    ghost invariant = { λ a. (length a.bits ≤ 4096) × (a.count ≡ count_by (λ b. b) a.bits) };
+    ghost invariant = { λ a. (length a.bits ≤ MAX_SUBPORT_PIPES) × (a.count ≡ count_by (λ b. b) a.bits) };
 }
 
 impl ActivePipes {
     /// So many pipes, from 1 to 4,096, none with a packet. All memory is taken here.
     pub(crate) fn none(alloc: Global, pipes: usize) -> Result<ActivePipes, NoMemory>
         requires some { 1 ≤ pipes }
-        requires few { pipes ≤ 4096 }
+        requires few { pipes ≤ MAX_SUBPORT_PIPES }
         ensures { IfOk result (λ a. a ≡ replicate pipes false) }
     {
         Ok(ActivePipes {

@@ -1,11 +1,11 @@
 //! What an arrival does.
 ghost use Rattle.std.specs.Prelude.{◌≡◌, ◌≤◌, ◌<◌, ◌↔◌, ℕ, length, slice_get, All, IsTrue, OnOk, IfErr, IsErr};
+ghost use Rattle.profile_plan.specs.declared.limits.TheConstants.{MAX_MTU};
 ghost use Rattle.port_sched.specs.Port.{has_place, is_full, is_full_at, with_arrival, in_subport, after_arrival};
 ghost use Rattle.port_sched.specs.Books.{pipe_of, Stands, Moves, KnowsActive, IsPipeBooks, IsSubportBooks};
 
 use crate::pipe::{PIPE_QUEUES, PipeBooks};
 use crate::port::PortSched;
-use crate::serving::MAX_WIRE;
 use crate::subport::SubportBooks;
 use qos_base::{Parcel, Pkt, TailFull};
 
@@ -44,7 +44,7 @@ impl<T: Parcel> SubportBooks<T> {
     fn arrive(&mut self, pipe: u32, queue: u32, t: T) -> Result<(), TailFull<T>>
         requires pipe { pipe < length self.old.pipes.items }
         requires queue { queue < 16 }
-        requires wire { (T.packet t).wire ≤ MAX_WIRE }
+        requires wire { (T.packet t).wire ≤ MAX_MTU }
         requires queues { All (λ p. length p.queues.lists ≡ 16) self.old.pipes.items }
         requires active { KnowsActive self.old }
         ensures full { Stands (λ s. IsErr result ↔ IsTrue (is_full_at queue (slice_get s.pipes pipe))) self.old }
@@ -64,7 +64,7 @@ impl<T: Parcel> SubportBooks<T> {
 impl<T: Parcel> PipeBooks<T> {
     fn arrive(&mut self, queue: u32, t: T) -> Result<(), TailFull<T>>
         requires queue { queue < length self.old.queues.lists }
-        requires wire { (T.packet t).wire ≤ MAX_WIRE }
+        requires wire { (T.packet t).wire ≤ MAX_MTU }
         ensures full { IsErr result ↔ IsTrue (is_full_at queue (Some (pipe_of self.old))) }
         ensures joined { OnOk result (pipe_of self.new ≡ with_arrival queue t (pipe_of self.old)) }
         ensures refused { IfErr result (λ e. (e.parcel ≡ t) × (pipe_of self.new ≡ pipe_of self.old)) }

@@ -1,8 +1,5 @@
 //! How far a dequeue has come, as its visits see it.
 
-/// The longest packet on the line, in bytes, that a queue holds.
-pub(crate) const MAX_WIRE: u32 = 262_144;
-
 /// Port time and the room of a dequeue; its sends are those of `out` from `first` on.
 #[derive(Clone, Copy, Debug)]
 pub(crate) struct Serving {

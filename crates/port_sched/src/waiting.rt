@@ -1,5 +1,6 @@
 //! The packets that wait.
 ghost use Rattle.std.specs.Prelude.{◌≡◌, ◌≤◌, ◌<◌, ◌*◌, ◌^◌, ℕ, length, drop, slice_get, All};
+ghost use Rattle.profile_plan.specs.declared.limits.TheConstants.{MAX_SUBPORT_PIPES};
 ghost use Rattle.port_sched.specs.Port.{left_in, left_in_subport, left_of, queued, emptied, pipe_emptied, subport_emptied};
 ghost use Rattle.port_sched.specs.Books.{pipe_of, Stands, Moves, KnowsActive, IsPipeBooks, IsSubportBooks};
 
@@ -38,7 +39,7 @@ impl<T: Parcel> PortSched<T> {
 
 impl<T: Parcel> SubportBooks<T> {
     fn queued(&self) -> u64
-        requires few { length self.now.pipes.items ≤ 4096 }
+        requires few { length self.now.pipes.items ≤ MAX_SUBPORT_PIPES }
         requires queues { All (λ p. length p.queues.lists ≡ 16) self.now.pipes.items }
         ensures exact { Stands (λ s. result ≡ length (left_in_subport s)) self.now }
         ensures limit { result ≤ 2 ^ 48 }
