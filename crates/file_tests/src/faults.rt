@@ -1,7 +1,8 @@
 //! Calls of the outside that fail, one or more in a run of three frames over two ports.
-use crate::build::{FIRST, PROFILE, SECOND, Sent, capture, input};
+use crate::check::{ends_as, same};
 use crate::faulty::{Call, FaultyShelf, Planned};
-use crate::seen::{FINE, NOTHING, PortNumbers, Seen, UNREAD, ends_as, same};
+use crate::two_ports::{FINE, FIRST_SENT, NOTHING, PROFILE, SECOND_SENT, UNREAD, capture, input};
+use command_fixtures::{End, PortNumbers, Rec};
 use qos_io::{MemShelf, PutFault};
 use qos_main::{PcapFault, Stop};
 use std::process::Abort;
@@ -14,7 +15,7 @@ pub struct Row<'a> {
     pub plan: &'a [Planned<'a>],
     /// How many bytes the input lacks at its end.
     pub less: usize,
-    pub end: Seen,
+    pub end: End,
     /// How many bytes of its text each output holds, if it is there.
     pub files: [Option<usize>; 2],
 }
@@ -72,7 +73,7 @@ pub fn holds<R: AllocGlobal + Abort>(
     rt: &R,
     shelf: &MemShelf,
     name: &str,
-    frames: &[Sent],
+    frames: &[Rec],
     size: Option<usize>,
 ) {
     has(rt, shelf, name, &capture(rt, frames), size);
@@ -82,8 +83,8 @@ pub fn holds<R: AllocGlobal + Abort>(
 pub fn check<R: Threads + Wait + Sync + AllocGlobal + Abort>(rt: &R, row: &Row<'_>) {
     let mut shelf = FaultyShelf::new(rt.alloc(), shelf_of(rt, row.less), row.plan);
     ends_as(rt, "run --profile p --out o a", &mut shelf, &row.end);
-    holds(rt, &shelf.files, "o.0.pcap", &FIRST, row.files[0]);
-    holds(rt, &shelf.files, "o.1.pcap", &SECOND, row.files[1]);
+    holds(rt, &shelf.files, "o.0.pcap", &FIRST_SENT, row.files[0]);
+    holds(rt, &shelf.files, "o.1.pcap", &SECOND_SENT, row.files[1]);
     drop(shelf);
 }
 
@@ -133,7 +134,7 @@ static READS: [(u32, PortNumbers, PortNumbers, [usize; 2]); 8] = [
 ];
 
 static UNREADABLE: Row<'static> = Row {
-    end: Seen {
+    end: End {
         status: 4,
         stopped: Stop::Fault(PcapFault::Read),
         ..FINE
@@ -149,7 +150,7 @@ fn check_read<R: Threads + Wait + Sync + AllocGlobal + Abort>(
     let plan = [failed("a", Call::Read(nth))];
     let row = Row {
         plan: &plan,
-        end: Seen {
+        end: End {
             first,
             second,
             ..UNREADABLE.end
@@ -172,7 +173,7 @@ fn the_capture_is_not_opened(rt: HostRuntime) {
     let plan = [failed("a", Call::Open)];
     let row = Row {
         plan: &plan,
-        end: Seen {
+        end: End {
             status: 4,
             stopped: Stop::NotOpened,
             first: IDLE,
@@ -198,7 +199,7 @@ fn check_first<R: Threads + Wait + Sync + AllocGlobal + Abort>(
     let plan = [failed("o.0.pcap", call)];
     let row = Row {
         plan: &plan,
-        end: Seen {
+        end: End {
             status: 5,
             first: [2, sent, 0, 0, 2u64.saturating_sub(sent), 2, 168],
             write_faults: [true, false],
@@ -219,7 +220,7 @@ fn check_second<R: Threads + Wait + Sync + AllocGlobal + Abort>(
     let plan = [failed("o.1.pcap", call)];
     let row = Row {
         plan: &plan,
-        end: Seen {
+        end: End {
             status: 5,
             second: [1, sent, 0, 0, 1u64.saturating_sub(sent), 1, 84],
             write_faults: [false, true],

@@ -1,6 +1,7 @@
 //! Commands on the files of the system. Each test has names of its own in the folder where the tests run.
-use crate::build::{FIRST, PROFILE, SECOND, Sent, capture, input};
-use crate::seen::{FINE, Seen, UNREAD, ends_as, same};
+use crate::check::{ends_as, same};
+use crate::two_ports::{FINE, FIRST_SENT, PROFILE, SECOND_SENT, UNREAD, capture, input};
+use command_fixtures::{End, Rec};
 use qos_main::{FileShelf, PcapFault, Stop};
 use std::fs;
 use std::fs::File;
@@ -28,13 +29,13 @@ fn has<R: Files + AllocGlobal + Abort>(rt: &R, name: &str, bytes: &[u8], note: &
 }
 
 // A file is the capture that the program writes of these frames.
-fn holds<R: Files + AllocGlobal + Abort>(rt: &R, name: &str, frames: &[Sent], note: &str) {
+fn holds<R: Files + AllocGlobal + Abort>(rt: &R, name: &str, frames: &[Rec], note: &str) {
     has(rt, name, &capture(rt, frames), note);
 }
 
 fn check<
     R: Files<File = File> + Threads + Wait + Copy + Send + Sync + AllocGlobal + Abort + 'static,
->(rt: &R, words: &str, end: &Seen) {
+>(rt: &R, words: &str, end: &End) {
     let mut shelf = FileShelf::new(rt).expect(rt, "a shelf");
     ends_as(rt, words, &mut shelf, end);
 }
@@ -44,15 +45,20 @@ fn a_command_on_files(rt: HostRuntime) {
     make_both(&rt, "plan", "whole");
     let words = "run --profile plan --out shaped whole";
     check(&rt, words, &FINE);
-    holds(&rt, "shaped.0.pcap", &FIRST, "a new file");
-    holds(&rt, "shaped.1.pcap", &SECOND, "a new file");
+    holds(&rt, "shaped.0.pcap", &FIRST_SENT, "a new file");
+    holds(&rt, "shaped.1.pcap", &SECOND_SENT, "a new file");
     make(&rt, "shaped.0.pcap", &[7; 1000]);
     check(&rt, words, &FINE);
-    holds(&rt, "shaped.0.pcap", &FIRST, "a longer one that was there");
+    holds(
+        &rt,
+        "shaped.0.pcap",
+        &FIRST_SENT,
+        "a longer one that was there",
+    );
 }
 
 // The output of port 0 is refused.
-static KEPT: Seen = Seen {
+static KEPT: End = End {
     status: 5,
     first: [2, 0, 0, 0, 2, 2, 168],
     write_faults: [true, false],
@@ -106,7 +112,7 @@ fn check_kept<
     check(rt, words, &KEPT);
     has(rt, "kept.0.pcap", &input(rt), words);
     has(rt, "rules.0.pcap", PROFILE.as_bytes(), words);
-    holds(rt, other, &SECOND, words);
+    holds(rt, other, &SECOND_SENT, words);
     fs::remove_file(rt, other).expect(rt, "a file");
 }
 
@@ -121,7 +127,7 @@ fn inputs_are_not_overwritten(rt: HostRuntime) {
     }
 }
 
-static FULL: Seen = Seen {
+static FULL: End = End {
     status: 5,
     write_faults: [true, false],
     ..FINE
@@ -133,10 +139,10 @@ fn an_output_is_full(rt: HostRuntime) {
     make_both(&rt, "layout", "frames");
     unix::fs::symlink(&rt, "/dev/full", "full.0.pcap").expect(&rt, "a link");
     check(&rt, "run --profile layout --out full frames", &FULL);
-    holds(&rt, "full.1.pcap", &SECOND, "the other output");
+    holds(&rt, "full.1.pcap", &SECOND_SENT, "the other output");
 }
 
-const UNWRITTEN: Seen = Seen {
+const UNWRITTEN: End = End {
     status: 5,
     first: [2, 0, 0, 0, 2, 2, 168],
     second: [1, 0, 0, 0, 1, 1, 84],
@@ -144,7 +150,7 @@ const UNWRITTEN: Seen = Seen {
     ..FINE
 };
 
-const NO_CAPTURE: Seen = Seen {
+const NO_CAPTURE: End = End {
     status: 4,
     stopped: Stop::Fault(PcapFault::Read),
     first: [0; 7],
@@ -152,13 +158,13 @@ const NO_CAPTURE: Seen = Seen {
     ..FINE
 };
 
-const UNOPENED: Seen = Seen {
+const UNOPENED: End = End {
     stopped: Stop::NotOpened,
     ..NO_CAPTURE
 };
 
 // A folder opens, and fails when it is read; in a folder that is not there nothing is opened or created.
-static OUTSIDE: [(&str, Seen); 5] = [
+static OUTSIDE: [(&str, End); 5] = [
     ("run --profile terms --out absent/o ours", UNWRITTEN),
     ("run --profile terms --out unread .", NO_CAPTURE),
     ("run --profile terms --out unopened absent/a", UNOPENED),

@@ -7,7 +7,7 @@
 #![tactic(auto)]
 
 #[cfg(test)]
-mod build;
+mod check;
 #[cfg(test)]
 mod faults;
 #[cfg(test)]
@@ -17,10 +17,8 @@ mod files;
 #[cfg(test)]
 mod memory;
 #[cfg(test)]
-mod seen;
-#[cfg(test)]
 mod system;
 #[cfg(test)]
-mod text;
+mod two_ports;
 #[cfg(test)]
 mod whole;

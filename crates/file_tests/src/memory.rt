@@ -1,7 +1,8 @@
 //! More than one cause: the status is the first of want of memory, a read fault, a fault of the capture and a write fault.
 use crate::faults::{NONE, Row, WHOLE, check};
 use crate::faulty::{Call, Planned};
-use crate::seen::{FINE, NOTHING, Seen};
+use crate::two_ports::{FINE, NOTHING};
+use command_fixtures::End;
 use qos_io::PutFault;
 use qos_main::{PcapFault, Stop};
 use std::process::Abort;
@@ -23,7 +24,7 @@ const UNPUT: Planned<'static> = Planned {
 };
 
 // The third record is cut, so that a packet comes to each port, which goes at once.
-const TORN_END: Seen = Seen {
+const TORN_END: End = End {
     status: 6,
     stopped: Stop::Fault(PcapFault::CutRecord(176)),
     first: [1, 1, 0, 0, 0, 1, 84],
@@ -50,7 +51,7 @@ static FAULTS: [Row<'static>; 5] = [
                 ..UNOPENED
             },
         ],
-        end: Seen {
+        end: End {
             status: 4,
             stopped: Stop::NotOpened,
             first: [0; 7],
@@ -69,7 +70,7 @@ static FAULTS: [Row<'static>; 5] = [
             },
             UNPUT,
         ],
-        end: Seen {
+        end: End {
             status: 4,
             stopped: Stop::Fault(PcapFault::Read),
             first: [1, 0, 0, 0, 1, 1, 84],
@@ -81,7 +82,7 @@ static FAULTS: [Row<'static>; 5] = [
     },
     Row {
         plan: &[UNPUT],
-        end: Seen {
+        end: End {
             first: [1, 0, 0, 0, 1, 1, 84],
             write_faults: [true, false],
             ..TORN_END
@@ -95,7 +96,7 @@ static FAULTS: [Row<'static>; 5] = [
             call: Call::Close,
             ..UNOPENED
         }],
-        end: Seen {
+        end: End {
             write_faults: [false, true],
             ..TORN_END
         },
@@ -119,7 +120,7 @@ fn refused(name: &str, call: Call) -> Planned<'_> {
     }
 }
 
-const MEMORY: Seen = Seen {
+const MEMORY: End = End {
     status: 7,
     ..NOTHING
 };

@@ -1,5 +1,5 @@
 //! Files of the system, and standard output, by the calls that a run makes on them.
-use crate::seen::same;
+use crate::check::same;
 use qos_io::{PutFault, Shelf, Sink, Source};
 use qos_main::{FileShelf, StdoutSink};
 use std::process::Abort;

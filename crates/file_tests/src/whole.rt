@@ -1,8 +1,9 @@
 //! A run whose report has a line of each kind.
-use crate::build::{Sent, capture};
+use crate::check::ends_with;
 use crate::faults::{holds, shelf_over};
 use crate::faulty::{Call, FaultyShelf, Planned};
-use crate::seen::{FINE, Seen, ends_with, wanted};
+use crate::two_ports::{FINE, FIRST_SENT, capture};
+use command_fixtures::{End, FAR, FIRST, Rec, wanted};
 use qos_io::{MemShelf, PutFault};
 use qos_main::{PcapFault, Stop};
 use std::process::Abort;
@@ -72,7 +73,7 @@ pbs = 92
 ";
 
 // Three frames to each port at one moment, in turn.
-const FRAMES: [Sent; 6] = [(0, 2), (0, 200), (0, 2), (0, 200), (0, 2), (0, 200)];
+const FRAMES: [Rec; 6] = [FIRST, FAR, FIRST, FAR, FIRST, FAR];
 
 // After their 24 + 6 * 76 bytes, a record of 10 bytes, and the first 7 bytes of another, which begins at 506.
 const REST: [u8; 33] = [
@@ -90,14 +91,16 @@ const UNPUT: [Planned<'static>; 1] = [Planned {
 
 // Meter gold gives green, yellow and red, and meter m2 green twice and red. What isn't red is sent, a frame at its
 // arrival and the other in the drain.
-const END: Seen = Seen {
+const END: End = End {
     status: 6,
     stopped: Stop::Fault(PcapFault::CutRecord(506)),
     first: [2, 2, 0, 0, 0, 2, 168],
     second: [2, 0, 0, 0, 2, 2, 168],
     write_faults: [false, true],
-    lists: [2, 1, 2, 2],
-    reasons: [1, 0, 0, 0, 0, 2, 0],
+    lost: [1, 0, 0, 0],
+    policed: 2,
+    meters: 2,
+    marked: [[1, 1, 1], [2, 0, 1]],
     ..FINE
 };
 
@@ -122,8 +125,14 @@ fn shelf<R: AllocGlobal + Abort>(rt: &R) -> MemShelf {
 
 // The second output has its header and the head of a record.
 fn wrote<R: AllocGlobal + Abort>(rt: &R, files: &MemShelf) {
-    holds(rt, files, "o.0.pcap", &[(0, 2), (84, 2)], Some(176));
-    holds(rt, files, "o.1.pcap", &[(0, 200), (84, 200)], Some(40));
+    holds(rt, files, "o.0.pcap", &FIRST_SENT, Some(176));
+    holds(
+        rt,
+        files,
+        "o.1.pcap",
+        &[FAR, Rec { nanos: 84, ..FAR }],
+        Some(40),
+    );
 }
 
 #[test]

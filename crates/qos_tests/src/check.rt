@@ -1,15 +1,12 @@
 //! Commands over files in memory, and what they come to.
-use crate::build::{HEADER, Input, Rec, bytes_of, output, words_of};
+use crate::input::{Input, bytes_of};
 use crate::profiles::{Edit, profile};
-use crate::seen::{EMPTY, End, run, same, says, wanted};
-use crate::text::report_of;
+use command_fixtures::{EMPTY, End, HEADER, Rec, report_of, run, wanted, words_of, written};
 use qos_io::{MemShelf, Shelf, WholeSink};
+use std::fmt::Debug;
 use std::process::Abort;
 use std::sync::Wait;
 use std::thread::Threads;
-
-/// The words of the rows.
-pub const WORDS: &str = "run --profile p --out o a.pcap";
 
 /// A run over one input, what it comes to, and what each port writes.
 #[derive(Clone, Copy)]
@@ -29,7 +26,7 @@ pub struct Row<'a> {
 /// A capture of the header alone.
 pub const NONE: Row<'static> = Row {
     note: "the header alone",
-    words: WORDS,
+    words: "run --profile p --out o a.pcap",
     edits: &[],
     text: None,
     input: Input::Raw(&HEADER, 0),
@@ -37,6 +34,21 @@ pub const NONE: Row<'static> = Row {
     outputs: [&[], &[]],
     report: None,
 };
+
+/// Two values are the same.
+pub fn same<T: PartialEq + Debug>(rt: &impl Abort, value: &T, wanted: &T, note: &str) {
+    assert_eq!(rt; value, wanted, "{note}");
+}
+
+/// A report has this text.
+pub fn says(rt: &impl Abort, said: &[u8], text: &str, note: &str) {
+    same(rt, &str::from_utf8(said), &Ok(text), note);
+}
+
+/// The words of a row.
+pub fn words<R: AllocGlobal + Abort>(rt: &R, row: &Row<'_>) -> Vec<String> {
+    words_of(rt.alloc(), row.words).expect(rt, "memory")
+}
 
 // The profile of a row.
 fn text_of<R: AllocGlobal + Abort>(rt: &R, row: &Row<'_>) -> Vec<u8> {
@@ -67,7 +79,7 @@ pub fn shelf_of<R: AllocGlobal + Abort>(rt: &R, row: &Row<'_>) -> MemShelf {
 
 /// The report of a row.
 pub fn reports<R: AllocGlobal + Abort>(rt: &R, said: &[u8], row: &Row<'_>) {
-    let report = report_of(rt, &wanted(&row.end));
+    let report = report_of(rt.alloc(), &wanted(&row.end)).expect(rt, "memory");
     let text = row.report.unwrap_or(report.as_str());
     says(rt, said, text, row.note);
 }
@@ -95,8 +107,8 @@ fn holds<R: AllocGlobal + Abort>(
 ) {
     match records {
         Some(records) => {
-            let written = output(rt, records);
-            same(rt, &shelf.file(name), &Some(written.as_slice()), note);
+            let bytes = written(rt.alloc(), records).expect(rt, "memory");
+            same(rt, &shelf.file(name), &Some(bytes.as_slice()), note);
         }
         None => same(rt, &shelf.file(name), &None, note),
     }
@@ -120,7 +132,7 @@ pub fn check_on<R: Threads + Wait + Sync + AllocGlobal + Abort>(
     shelf: &mut MemShelf,
     row: &Row<'_>,
 ) {
-    ends_as(rt, &words_of(rt, row.words), shelf, row);
+    ends_as(rt, &words(rt, row), shelf, row);
     wrote(rt, shelf, row);
 }
 

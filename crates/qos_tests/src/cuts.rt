@@ -1,8 +1,8 @@
 //! A capture that is cut at each byte.
-use crate::build::{FIRST, Input, PLAIN, Rec, frame};
 use crate::check::{NONE, Row, check};
+use crate::input::{Input, frame};
 use crate::profiles::DRAINS;
-use crate::seen::{EMPTY, End, PortNumbers};
+use command_fixtures::{EMPTY, End, FIRST, PLAIN, PortNumbers, Rec};
 use qos_main::{PcapFault, Stop};
 use std::process::Abort;
 use std::sync::Wait;

@@ -5,11 +5,11 @@
 #![tactic(auto)]
 
 #[cfg(test)]
-mod build;
-#[cfg(test)]
 mod check;
 #[cfg(test)]
 mod cuts;
+#[cfg(test)]
+mod input;
 #[cfg(test)]
 mod many;
 #[cfg(test)]
@@ -26,7 +26,3 @@ mod report;
 mod reports;
 #[cfg(test)]
 mod rows;
-#[cfg(test)]
-mod seen;
-#[cfg(test)]
-mod text;

@@ -1,8 +1,8 @@
 //! A run over 4,096 pipes.
-use crate::build::{FIRST, Input, PLAIN, Rec};
 use crate::check::{NONE, Row, check};
+use crate::input::Input;
 use crate::reports;
-use crate::seen::{EMPTY, End};
+use command_fixtures::{EMPTY, End, FIRST, PLAIN, Rec};
 use std::process::Abort;
 
 // As many places in queues as a profile may have: 4,096 pipes with 16 queues of 64. The section `[red]` is skipped.

@@ -1,9 +1,9 @@
 //! Runs over a profile with meters, as rows.
-use crate::build::{FIRST, Input, PLAIN, Rec, words_of};
-use crate::check::{NONE, Row, reports, shelf_of, wrote};
+use crate::check::{NONE, Row, reports, same, shelf_of, words, wrote};
+use crate::input::Input;
 use crate::profiles::{CODE, METERED, RULE, SECOND_PORT};
 use crate::reports;
-use crate::seen::{EMPTY, End, gather, same, wanted};
+use command_fixtures::{EMPTY, End, FAR, FIRST, PLAIN, Rec, gather, wanted};
 use qos_base::Colour::{self, Green, Red, Yellow};
 use qos_io::{MemShelf, OpenGate, WholeSink};
 use qos_main::{Ended, Entry, Mark, MeterLog, PcapFault, PortEnd, Stop, qos_top};
@@ -61,9 +61,6 @@ const FOUR: Metered<'static> = Metered {
 };
 
 static POLICED: Metered<'static> = FOUR;
-
-// To 10.0.0.200.
-const FAR: Rec = Rec { host: 200, ..FIRST };
 
 static SHARED: [Metered<'static>; 2] = [
     // 92 bytes are green and 46 yellow, whichever port they go to. Being blind, the meter takes the red of port 1's
@@ -649,7 +646,7 @@ fn check_on<R: Threads + Wait + Sync + AllocGlobal + Abort>(
     shelf: &mut MemShelf,
     row: &Metered<'_>,
 ) {
-    let words = words_of(rt, row.row.words);
+    let words = words(rt, &row.row);
     let mut said = WholeSink::new(rt.alloc());
     compare(
         rt,

@@ -1,13 +1,10 @@
 //! Runs over two ports, as rows.
-use crate::build::{FIRST, Input, PLAIN, Rec};
 use crate::check::{NONE, Row, check};
+use crate::input::Input;
 use crate::profiles::{BY_ADDRESS, CODE, CREDITS, SECOND_PORT, SECOND_RULE};
-use crate::seen::{EMPTY, End};
+use command_fixtures::{EMPTY, End, FAR, FIRST, PLAIN, Rec};
 
 const NEAR: Rec = FIRST;
-
-// To 10.0.0.200.
-const FAR: Rec = Rec { host: 200, ..FIRST };
 
 // So many nanoseconds after the first, and after 10,000.
 const NEAR_LATER: Rec = Rec {

@@ -1,8 +1,8 @@
 //! Commands that are refused before anything is created.
-use crate::build::{Input, words_of};
-use crate::check::{NONE, Row, WORDS, check, check_on, ends_as, put_input};
+use crate::check::{NONE, Row, check, check_on, ends_as, put_input, same, words};
+use crate::input::Input;
 use crate::profiles::{CODE, METERED, PIPE, PIPES, QUEUES, profile_of_size};
-use crate::seen::{EMPTY, End, same};
+use command_fixtures::{EMPTY, End};
 use qos_io::{MemShelf, WholeShelf};
 use qos_main::{FaultKind, Note, ProfileFault};
 
@@ -245,7 +245,7 @@ static EMPTY_PROFILE: Row<'static> = Row {
 // A name of no file opens as an empty one where it is sure to read, and an empty text is no profile.
 #[test]
 fn a_profile_that_is_empty(rt: HostRuntime) {
-    let words = words_of(&rt, WORDS);
+    let words = words(&rt, &EMPTY_PROFILE);
     let mut shelf = WholeShelf::new(rt.alloc());
     ends_as(&rt, &words, &mut shelf, &EMPTY_PROFILE);
     same(&rt, &shelf.file("o.0.pcap"), &None, "an empty profile");

@@ -1,10 +1,10 @@
 //! Commands whose report is refused.
 ghost use Rattle.std.specs.Prelude.{None};
 
-use crate::build::{FIRST, Input, PLAIN, words_of};
-use crate::check::{NONE, Row, WORDS, shelf_of, wrote};
+use crate::check::{NONE, Row, same, says, shelf_of, words, wrote};
+use crate::input::Input;
 use crate::profiles::DRAINS;
-use crate::seen::{EMPTY, End, Seen, run, same, says, wanted};
+use command_fixtures::{EMPTY, End, FIRST, PLAIN, Seen, run, wanted};
 use qos_io::{MemShelf, PutFault, Sink};
 use qos_main::{PcapFault, Stop, put_memory};
 use std::process::Abort;
@@ -85,14 +85,15 @@ static ROWS: [(&str, Row<'static>, PutFault, u8); 4] = [
     ("no memory behind a fault", TORN, PutFault::NoMemory, 7),
 ];
 
-// Runs the words of the rows with a report that is refused, and counts the puts.
+// Runs the words of a row with a report that is refused, and counts the puts.
 fn refused<R: Threads + Wait + Sync + AllocGlobal + Abort>(
     rt: &R,
     shelf: &mut MemShelf,
+    row: &Row<'_>,
     fault: PutFault,
 ) -> (Seen, u64) {
     let mut said = new_said(rt, Some(fault));
-    let found = run(rt, &words_of(rt, WORDS), shelf, &mut said);
+    let found = run(rt, &words(rt, row), shelf, &mut said);
     (found, said.puts)
 }
 
@@ -103,7 +104,7 @@ fn check<R: Threads + Wait + Sync + AllocGlobal + Abort>(
 ) {
     let (note, row, fault, status) = row;
     let mut shelf = shelf_of(rt, row);
-    let (found, puts) = refused(rt, &mut shelf, *fault);
+    let (found, puts) = refused(rt, &mut shelf, row, *fault);
     let expected = Seen {
         status: *status,
         ..wanted(&row.end)

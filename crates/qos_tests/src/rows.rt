@@ -1,9 +1,9 @@
 //! Runs over one port, as rows.
-use crate::build::{FIRST, FORMS, Form, Input, PLAIN, Rec, frame};
 use crate::check::{NONE, Row, check};
+use crate::input::{Input, frame};
 use crate::profiles::{BUCKET_SIZE, CODE, DRAINS, Edit, QUEUES, SLOW};
 use crate::reports;
-use crate::seen::{EMPTY, End};
+use command_fixtures::{EMPTY, End, FIRST, Form, PLAIN, Rec};
 use qos_main::{PcapFault, Stop};
 use std::process::Abort;
 use std::sync::Wait;
@@ -392,7 +392,7 @@ fn check_form<R: Threads + Wait + Sync + AllocGlobal + Abort>(rt: &R, form: Form
 #[test]
 fn each_form_gives_the_same_output(rt: HostRuntime) {
     let records = [frame(0), frame(5000), frame(7000)];
-    for form in FORMS {
-        check_form(&rt, form, &records);
+    for (big, micros) in [(false, false), (true, false), (false, true), (true, true)] {
+        check_form(&rt, Form { big, micros }, &records);
     }
 }

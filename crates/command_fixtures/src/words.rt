@@ -1,0 +1,11 @@
+//! The words of a command.
+use std::alloc::{AllocError, Global};
+
+/// The words of a line, which single spaces part.
+pub fn words_of(alloc: Global, line: &str) -> Result<Vec<String>, AllocError> {
+    let mut words = Vec::new(alloc);
+    for word in line.split(' ') {
+        words.push(String::from_str(alloc, word)?)?;
+    }
+    Ok(words)
+}
