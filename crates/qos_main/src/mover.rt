@@ -26,8 +26,7 @@ pub struct Moved {
     pub well: bool,
 }
 
-fn transfer(way: Way, file: File, piece: Piece) -> Moved {
-    let (mut file, mut piece) = (file, piece);
+fn transfer(way: Way, mut file: File, mut piece: Piece) -> Moved {
     let well = match way {
         Way::Read => piece.fill(&mut file),
         Way::Write => piece.write(&mut file),

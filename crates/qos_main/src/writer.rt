@@ -36,11 +36,10 @@ impl<'a, R: Wait> PieceWriter<'a, R> {
     /// Writes this file.
     pub fn new(pieces: Pieces<'a, R>, file: File) -> PieceWriter<'a, R> {
         let Pieces {
-            transfers,
+            mut transfers,
             piece,
             spare,
         } = pieces;
-        let mut transfers = transfers;
         transfers.keep(Moved {
             file,
             piece: spare,
@@ -84,12 +83,13 @@ impl<'a, R: Wait> PieceWriter<'a, R> {
 
     /// Writes what is left, once all before it was written. Whether no write has failed.
     pub fn finish(self) -> bool {
-        let PieceWriter { transfers, piece } = self;
-        let (mut transfers, mut piece) = (transfers, piece);
-        let Some(Moved { file, well, .. }) = transfers.end() else {
+        let PieceWriter {
+            mut transfers,
+            mut piece,
+        } = self;
+        let Some(Moved { mut file, well, .. }) = transfers.end() else {
             return false;
         };
-        let mut file = file;
         well && piece.write(&mut file)
     }
 }
