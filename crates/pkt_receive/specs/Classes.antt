@@ -2,7 +2,7 @@
 use Rattle.std.specs.Prelude.{ℕ, ◌-◌, ◌<◌, ◌≤◌, nat_lt, if◌then◌else◌, length, Result, Ok, Err, IsSome, IfSome}
 use Rattle.std.specs.Option.{option_map_or}
 use Rattle.qos_base.specs.declared.reason.Reason.{Reason}
-use Rattle.qos_base.specs.declared.reason.Reason.TheVariants.{Unparsed, Unmatched, Oversize, TooLong, NoSlot, Policed, TailFull}
+use Rattle.qos_base.specs.declared.reason.Reason.TheVariants.{Unparsed, Unmatched, Oversize, TooLong, NoSlot, TailFull}
 use Rattle.profile_plan.specs.Profile.{Plan, subport_of}
 use Rattle.port_classify.specs.declared.destination.Place.{Place}
 use Rattle.port_classify.specs.declared.frame.Frame.{Frame}

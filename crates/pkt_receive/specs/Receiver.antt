@@ -25,7 +25,6 @@ use Rattle.pkt_receive.specs.Losses.{counted, lost_total, no_losses}
 use Rattle.pkt_receive.specs.Marks.{asked_by}
 use Rattle.meter_table.specs.declared.mark.Mark.{Mark}
 use Rattle.meter_table.specs.Asked.{request_in}
-use Rattle.pkt_slots.specs.declared.limits.TheConstants.{MAX_CAPTURED}
 use Rattle.pkt_slots.specs.Mbuf.{captured_in}
 use Rattle.pkt_slots.specs.Placed.{IsPlaced}
 
@@ -66,7 +65,6 @@ module _ {S : Type 0} (G : Ghosts S) where
     pub given_is : given c ≡ read + 1
     pub limit_is : limit_of c ≡ MAX_RECORDS
     pub place : head.index ≡ read
-    pub cap_limit : head.cap ≤ MAX_CAPTURED
     pub captured : head.cap ≤ head.wire
 
   -- each record that a receiver has counted as lost was read

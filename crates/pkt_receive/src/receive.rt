@@ -12,7 +12,6 @@ ghost use Rattle.pkt_receive.specs.Losses.{no_losses};
 ghost use Rattle.meter_table.specs.declared.mark.Mark.{Mark};
 ghost use Rattle.pkt_receive.specs.Marks.{IsMarking, StaysMarker};
 ghost use Rattle.pkt_receive.specs.Receiver.{IsReadFault, IsReceived, IsSorted, HasPlace};
-ghost use Rattle.pkt_slots.specs.declared.limits.TheConstants.{MAX_CAPTURED};
 ghost use Rattle.qos_io.specs.Bytes.{bytes_in};
 ghost use Rattle.qos_io.specs.Shelves.{ChangesOnly};
 ghost use Rattle.qos_pcap.specs.Reads.{Reads};
@@ -121,7 +120,6 @@ fn sort<R: Wait>(
     requires fits { head.now.cap ≤ length bytes.items }
     requires slot { head.now.cap ≤ p.now.pool.slot_bytes }
     requires captured { head.now.cap ≤ head.now.wire }
-    requires limit { head.now.cap ≤ MAX_CAPTURED }
     requires marking { IsMarking p.now MAX_RECORDS marker.old }
     ensures received { IfOk result (λ received. (made : List Mark) × (marker.new.marks.items ≡ marker.old.marks.items ++ made)
         × IsReceived p.now marker.old.origin input head.now.index (recorded head.now (take head.now.cap bytes.items)) made received) }
@@ -130,6 +128,7 @@ fn sort<R: Wait>(
     ensures stays { StaysMarker marker.old marker.new }
     ensures slots { slots.new.slot_bytes ≡ slots.old.slot_bytes }
 {
+    p.limits();
     match Fate::of(rt, p, input, head, &bytes[..head.cap as usize], marker)? {
         Fate::Lost(reason) => {
             slots.give_bytes(bytes);
@@ -154,7 +153,6 @@ fn receive<R: Wait, S: Source>(
 ) -> Result<Received, Halt>
     requires next { untaken capture.old ≡ Some head.now }
     requires captured { head.now.cap ≤ head.now.wire }
-    requires limit { head.now.cap ≤ MAX_CAPTURED }
     requires slots { slots.old.slot_bytes ≡ p.now.pool.slot_bytes }
     requires marking { IsMarking p.now MAX_RECORDS marker.old }
     ensures passed { OnOk result (HasPassedBody capture.old capture.new) }

@@ -4,10 +4,8 @@
 //! It promises that a slot has the pool's length and that a packet's captured bytes are the first of its slot.
 #![tactic(auto)]
 
-mod limits;
 mod mbuf;
 mod slots;
 
-pub use limits::MAX_CAPTURED;
 pub use mbuf::Mbuf;
 pub use slots::Slots;

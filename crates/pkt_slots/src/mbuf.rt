@@ -1,6 +1,6 @@
 //! A packet in its slot.
 ghost use Rattle.std.specs.Prelude.{◌≡◌, ◌≤◌, length};
-ghost use Rattle.pkt_slots.specs.declared.limits.TheConstants.{MAX_CAPTURED};
+ghost use Rattle.profile_plan.specs.declared.limits.TheConstants.{MAX_SLOT_BYTES};
 
 use qos_base::{Parcel, Pkt};
 
@@ -13,7 +13,7 @@ pub struct Mbuf {
     pub pkt: Pkt,
     ghost fits: { pkt.cap ≤ length bytes.items },
     ghost captured: { pkt.cap ≤ pkt.wire },
-    ghost limit: { pkt.cap ≤ MAX_CAPTURED },
+    ghost limit: { pkt.cap ≤ MAX_SLOT_BYTES },
 }
 
 impl Parcel for Mbuf {

@@ -1,7 +1,7 @@
 -- What is answered for a profile's file.
 use Rattle.std.specs.Prelude.{◌≡◌, ℕ, ◌+◌, List, take, Result, Ok, Err, None, Some, ⊤}
 use Rattle.profile_plan.specs.Profile.{Plan}
-use Rattle.qos_profile.specs.declared.checking.TheConstants.{MAX_TEXT}
+use Rattle.qos_profile.specs.declared.limits.TheConstants.{MAX_TEXT}
 use Rattle.qos_profile.specs.Faults.{fault_of_text}
 use Rattle.qos_profile.specs.Planned.{profile_of}
 use Rattle.profile_file.specs.declared.fault.LoadFault.{LoadFault}

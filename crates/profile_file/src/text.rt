@@ -1,7 +1,7 @@
 //! The text of a file.
 ghost use Rattle.std.specs.Prelude.{◌≡◌, ◌≢◌, ◌≤◌, ◌<◌, ◌+◌, ◌++◌, ℕ, List, [], Some, Err, length, take, IfOk, OnOk};
 ghost use Rattle.qos_io.specs.Bytes.{left_after};
-ghost use Rattle.qos_profile.specs.declared.checking.TheConstants.{MAX_TEXT};
+ghost use Rattle.qos_profile.specs.declared.limits.TheConstants.{MAX_TEXT};
 ghost use Rattle.profile_file.specs.Loaded.{text_in};
 ghost use Rattle.profile_file.specs.Reading.{AddsPart};
 

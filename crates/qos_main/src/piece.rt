@@ -1,5 +1,6 @@
 //! A piece of a file: what is read at once, or written at once.
 ghost use Rattle.std.specs.Prelude.{◌≡◌, ◌≤◌, length, vec_len, vec_capacity};
+ghost use Rattle.qos_main.specs.declared.piece.TheConstants.{PIECE};
 
 use std::alloc::{AllocError, Global};
 use std::fs::File;
@@ -14,8 +15,8 @@ pub struct Piece {
     bytes: Vec<u8>,
     given: usize,
     ghost within: { given ≤ vec_len bytes },
-    ghost most: { vec_len bytes ≤ 1048576 },
-    ghost room: { 1048576 ≤ vec_capacity bytes },
+    ghost most: { vec_len bytes ≤ PIECE },
+    ghost room: { PIECE ≤ vec_capacity bytes },
 }
 
 impl Piece {

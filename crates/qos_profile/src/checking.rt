@@ -1,5 +1,6 @@
 //! A text to its profile, or to its first fault.
 ghost use Rattle.std.specs.Prelude.{◌≡◌, ◌≤◌, length, IfOk};
+ghost use Rattle.qos_profile.specs.declared.limits.TheConstants.{MAX_TEXT};
 ghost use Rattle.qos_profile.specs.Faults.{at_line, with_total, first_of, fault_of_sections, fault_of_text, AreClear, Answers};
 ghost use Rattle.qos_profile.specs.Planned.{plan_of, profile_of};
 
@@ -7,6 +8,7 @@ use crate::across::across_line;
 use crate::build::plan::plan;
 use crate::fault::{FaultKind, ProfileError, ProfileFault};
 use crate::large::too_large;
+use crate::limits::MAX_TEXT;
 use crate::missing::missing_line;
 use crate::naming::unnamed_line;
 use crate::reading::read_sections;
@@ -14,9 +16,6 @@ use crate::section::Section;
 use profile_plan::Profile;
 use qos_base::NoMemory;
 use std::alloc::Global;
-
-/// The longest text, in bytes.
-pub const MAX_TEXT: usize = 1_048_576;
 
 fn first_of(
     missing: Option<u32>,
@@ -62,7 +61,7 @@ fn with_total(total: u64) -> ProfileFault
 }
 
 fn fault_of_sections(sections: &[Section]) -> Option<ProfileFault>
-    requires { length sections.now ≤ 1048576 }
+    requires { length sections.now ≤ MAX_TEXT }
     ensures { result ≡ fault_of_sections sections.now }
 {
     first_of(
@@ -96,7 +95,7 @@ pub fn read_profile(alloc: Global, text: &[u8]) -> Result<Profile, ProfileError>
 }
 
 fn answer(alloc: Global, sections: &[Section]) -> Result<Profile, ProfileError>
-    requires few { length sections.now ≤ 1048576 }
+    requires few { length sections.now ≤ MAX_TEXT }
     requires clear { AreClear sections.now }
     ensures fault { Answers result (fault_of_sections sections.now) }
     ensures profile { IfOk result (λ profile. profile ≡ plan_of sections.now) }

@@ -1,5 +1,6 @@
 //! What is too large in the whole.
 ghost use Rattle.std.specs.Prelude.{◌≡◌, ◌≤◌, ◌*◌, ◌^◌, length};
+ghost use Rattle.qos_profile.specs.declared.limits.TheConstants.{MAX_TEXT};
 ghost use Rattle.qos_profile.specs.Large.{pipe_room, room_with, pipes_in, room_in, queue_total, pipe_total, slot_total, meters_in, meter_total, first_above, too_large};
 
 use crate::defaults::{SLOT_BYTES, SLOTS};
@@ -53,7 +54,7 @@ fn room_in(section: &Section) -> u64
 }
 
 fn queue_total(sections: &[Section]) -> u64
-    requires { length sections.now ≤ 1048576 }
+    requires { length sections.now ≤ MAX_TEXT }
     ensures { result ≡ queue_total sections.now }
 {
     let mut total: u64 = 0;
@@ -64,7 +65,7 @@ fn queue_total(sections: &[Section]) -> u64
 }
 
 fn pipe_total(sections: &[Section]) -> u64
-    requires { length sections.now ≤ 1048576 }
+    requires { length sections.now ≤ MAX_TEXT }
     ensures { result ≡ pipe_total sections.now }
 {
     let mut total: u64 = 0;
@@ -94,7 +95,7 @@ fn meters_in(head: &Head) -> u64
 }
 
 fn meter_total(sections: &[Section]) -> u64
-    requires { length sections.now ≤ 1048576 }
+    requires { length sections.now ≤ MAX_TEXT }
     ensures { result ≡ meter_total sections.now }
 {
     let mut total: u64 = 0;
@@ -123,7 +124,7 @@ fn first_above(queues: u64, pipes: u64, slots: u64, meters: u64) -> Option<u64>
 /// The first total that is too large.
 #[tactic(auto, unfolding(crate::specs::Large::too_large))]
 pub(crate) fn too_large(sections: &[Section]) -> Option<u64>
-    requires { length sections.now ≤ 1048576 }
+    requires { length sections.now ≤ MAX_TEXT }
     ensures { result ≡ too_large sections.now }
 {
     first_above(

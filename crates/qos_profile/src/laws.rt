@@ -1,6 +1,7 @@
 //! What the definitions say together. A law is a function without parameters whose contract holds; there is
 //! nothing to call it for.
 ghost use Rattle.std.specs.Prelude.{◌≡◌, ℕ, ◌≤◌, List, [], length, None, true};
+ghost use Rattle.qos_profile.specs.declared.limits.TheConstants.{MAX_TEXT};
 ghost use Rattle.profile_lines.specs.Lines.{Line};
 ghost use Rattle.qos_profile.specs.declared.fact.Fact.{Fact};
 ghost use Rattle.qos_profile.specs.declared.head.Head.{Head};
@@ -36,7 +37,7 @@ pub fn plans_keep_their_limits()
 
 /// A profile's text, where it is not too long, has no fault, and it says the profile, with nothing skipped.
 pub fn texts_are_read_back()
-    ensures fault { (p : Plan) → KeepsLimits p → KeepsForms p → length (text_of p) ≤ 1048576 → fault_of_text (text_of p) ≡ None }
+    ensures fault { (p : Plan) → KeepsLimits p → KeepsForms p → length (text_of p) ≤ MAX_TEXT → fault_of_text (text_of p) ≡ None }
     ensures profile { (p : Plan) → KeepsLimits p → KeepsForms p → profile_of (text_of p) ≡ record p { skipped = [] } }
 {
     profile_print::laws::lines_are_read_back();

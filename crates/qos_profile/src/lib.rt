@@ -14,6 +14,7 @@ mod forms;
 mod head;
 mod large;
 pub mod laws;
+mod limits;
 mod list;
 mod lookup;
 mod matching;
@@ -28,8 +29,9 @@ mod sections;
 mod table;
 mod value;
 
-pub use checking::{MAX_TEXT, read_profile};
+pub use checking::read_profile;
 pub use fault::{FaultKind, ProfileError, ProfileFault};
+pub use limits::MAX_TEXT;
 pub use printing::profile_text;
 pub use profile_plan::{
     CLASSES, CodeChoice, MeterKind, MeterPlan, MeterRate, PipeChoice, PipeKind, PoolPlan, PortPlan,

@@ -1,5 +1,6 @@
 //! The text of a profile, which is read back as the same profile.
 ghost use Rattle.std.specs.Prelude.{◌≡◌, ◌≤◌, [], length, None, IfOk};
+ghost use Rattle.qos_profile.specs.declared.limits.TheConstants.{MAX_TEXT};
 ghost use Rattle.profile_print.specs.Text.{text_of};
 ghost use Rattle.qos_profile.specs.Faults.{fault_of_text};
 ghost use Rattle.qos_profile.specs.Planned.{profile_of};
@@ -18,7 +19,7 @@ use std::alloc::Global;
 /// longer than [`MAX_TEXT`](crate::MAX_TEXT) bytes, which takes tens of thousands of pipes.
 pub fn profile_text(alloc: Global, p: &Profile) -> Result<Vec<u8>, NoMemory>
     ensures text { IfOk result (λ text. text.items ≡ text_of p.now) }
-    ensures fault { IfOk result (λ text. length text.items ≤ 1048576 → fault_of_text text.items ≡ None) }
+    ensures fault { IfOk result (λ text. length text.items ≤ MAX_TEXT → fault_of_text text.items ≡ None) }
     ensures profile { IfOk result (λ text. profile_of text.items ≡ record p.now { skipped = [] }) }
 {
     p.limits();

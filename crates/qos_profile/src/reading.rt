@@ -1,5 +1,6 @@
 //! A text to its sections, line by line.
 ghost use Rattle.std.specs.Prelude.{◌≡◌, ◌≤◌, [], map, length, Ok, Err, OnOk, IfOk, IfErr};
+ghost use Rattle.qos_profile.specs.declared.limits.TheConstants.{MAX_TEXT};
 ghost use Rattle.profile_lines.specs.Lines.{line_of, Head as HeadLine, Entry, Neither};
 ghost use Rattle.profile_lines.specs.View.{line_view};
 ghost use Rattle.qos_profile.specs.Sections.{fault_in, fault_of_neither, last_of};
@@ -117,11 +118,11 @@ fn error_of(line: u32, stop: Stop) -> ProfileError
     }
 }
 
-/// The sections of a text of at most 1,048,576 bytes, or its first fault of a line.
+/// The sections of a text of at most [`MAX_TEXT`](crate::MAX_TEXT) bytes, or its first fault of a line.
 pub(crate) fn read_sections(alloc: Global, text: &[u8]) -> Result<Outline, ProfileError>
-    requires { length text.now ≤ 1048576 }
+    requires { length text.now ≤ MAX_TEXT }
     ensures sections { ReadsSections (lines_of text.now) result }
-    ensures few { IfOk result (λ sections. length sections ≤ 1048576) }
+    ensures few { IfOk result (λ sections. length sections ≤ MAX_TEXT) }
 {
     let mut sections = Outline::new(alloc);
     match take_lines(alloc, &mut sections, text) {
@@ -135,10 +136,10 @@ pub(crate) fn read_sections(alloc: Global, text: &[u8]) -> Result<Outline, Profi
 
 // Takes line after line, up to the first that is not taken.
 fn take_lines(alloc: Global, sections: &mut Outline, text: &[u8]) -> Result<(), ProfileError>
-    requires short { length text.now ≤ 1048576 }
+    requires short { length text.now ≤ MAX_TEXT }
     requires none { sections.old ≡ [] }
     ensures taken { OnOk result (ReadsSections (lines_of text.now) (Ok sections.new)) }
-    ensures few { OnOk result (length sections.new ≤ 1048576) }
+    ensures few { OnOk result (length sections.new ≤ MAX_TEXT) }
     ensures fault { IfErr result (λ error. ReadsSections (lines_of text.now) (Err error)) }
 {
     let mut rest = text;

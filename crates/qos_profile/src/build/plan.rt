@@ -1,5 +1,6 @@
 //! The whole profile.
 ghost use Rattle.std.specs.Prelude.{◌≡◌, ◌≤◌, IfOk, length};
+ghost use Rattle.qos_profile.specs.declared.limits.TheConstants.{MAX_TEXT};
 ghost use Rattle.profile_plan.specs.Profile.{KeepsLimits};
 ghost use Rattle.qos_profile.specs.Fits.{FitSections};
 ghost use Rattle.qos_profile.specs.Planned.{skipped_of, plan_of};
@@ -33,7 +34,7 @@ fn skipped(alloc: Global, sections: &[Section]) -> Result<Sequence<u32>, NoMemor
 /// The profile that sections say, which have no fault.
 #[tactic(auto, unfolding(crate::specs::Planned::plan_of))]
 pub(crate) fn plan(alloc: Global, sections: &[Section]) -> Result<Profile, NoMemory>
-    requires count { length sections.now ≤ 1048576 }
+    requires count { length sections.now ≤ MAX_TEXT }
     requires limits { KeepsLimits (plan_of sections.now) }
     requires fits { FitSections sections.now }
     ensures { IfOk result (λ profile. profile ≡ plan_of sections.now) }

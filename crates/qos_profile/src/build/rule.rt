@@ -1,5 +1,6 @@
 //! The rules, by number.
 ghost use Rattle.std.specs.Prelude.{◌≡◌, ◌<◌, ◌≤◌, IfOk, IfSome, length};
+ghost use Rattle.qos_profile.specs.declared.limits.TheConstants.{MAX_TEXT};
 ghost use Rattle.profile_plan.specs.Limits.{IsVlan};
 ghost use Rattle.qos_profile.specs.Lookups.{facts_at};
 ghost use Rattle.qos_profile.specs.Fits.{FitsRule, FitsPipe, FitRules};
@@ -96,7 +97,7 @@ fn code(value: Option<Value>) -> CodeChoice
 
 // The number of the meter of this name: how many meters stand before it.
 fn meter_number(sections: &[Section], name: &Name) -> u32
-    requires { length sections.now ≤ 1048576 }
+    requires { length sections.now ≤ MAX_TEXT }
     ensures { result ≡ meter_number sections.now name.now }
 {
     let head = Head::Meter(*name);
@@ -113,7 +114,7 @@ fn meter_number(sections: &[Section], name: &Name) -> u32
 }
 
 fn meter(sections: &[Section], value: Option<Value>) -> Option<u32>
-    requires { length sections.now ≤ 1048576 }
+    requires { length sections.now ≤ MAX_TEXT }
     ensures { result ≡ meter_in sections.now value }
 {
     match value {
@@ -124,7 +125,7 @@ fn meter(sections: &[Section], value: Option<Value>) -> Option<u32>
 
 #[tactic(auto, unfolding(crate::specs::Planned::rule_of))]
 fn rule(sections: &[Section], number: u64) -> RulePlan
-    requires count { length sections.now ≤ 1048576 }
+    requires count { length sections.now ≤ MAX_TEXT }
     requires number { number < 256 }
     requires fits { FitsRule (rule_of sections.now number (facts_at sections.now (Head.Rule number))) }
     ensures { result ≡ rule_of sections.now number (facts_at sections.now (Head.Rule number)) }
@@ -147,7 +148,7 @@ fn rule(sections: &[Section], number: u64) -> RulePlan
 
 /// The rules by number.
 pub(crate) fn rules(alloc: Global, sections: &[Section]) -> Result<Sequence<RulePlan>, NoMemory>
-    requires count { length sections.now ≤ 1048576 }
+    requires count { length sections.now ≤ MAX_TEXT }
     requires fits { FitRules sections.now }
     ensures { IfOk result (λ rules. rules ≡ rules_of sections.now) }
 {

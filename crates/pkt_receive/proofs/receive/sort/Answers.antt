@@ -12,7 +12,7 @@ invariant_of-result g c =
     record {
       fits = omega (arith, cap, c.requires.fits);
       captured = omega (arith, cap, wire, c.requires.captured);
-      limit = omega (arith, cap, c.requires.limit);
+      limit = omega (arith, cap, c.requires.slot, c.limits.ensures.pool.slot_bytes.1);
     }
 
 pub returns-in-Lost-clause-received : goal.returns-in-Lost-clause-received

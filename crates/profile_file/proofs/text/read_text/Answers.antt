@@ -1,5 +1,5 @@
 use Rattle.std.proofs.Common.{◌≡◌, ◌∙◌, ◌+◌, ap, arith, length, drop, take}
-use Rattle.qos_profile.specs.declared.checking.TheConstants.{MAX_TEXT}
+use Rattle.qos_profile.specs.declared.limits.TheConstants.{MAX_TEXT}
 use Rattle.profile_file.proofs.Reading.{IsFront-more, IsFront-whole}
 use Rattle.profile_file.proofs.text.read_text.Goals as goal
 

@@ -1,5 +1,5 @@
 use Rattle.std.proofs.Common.{◌≡◌, ◌≤◌, ◌-◌, ◌+◌, ℕ, List, Some, length}
-use Rattle.qos_profile.specs.declared.checking.TheConstants.{MAX_TEXT}
+use Rattle.qos_profile.specs.declared.limits.TheConstants.{MAX_TEXT}
 use Rattle.profile_file.proofs.Reading.{IsFront}
 use Rattle.profile_file.proofs.text.read_text.Given as goal
 
