@@ -3,3 +3,4 @@ pub mod Account
 pub mod Run
 pub mod Command
 pub mod Causes
+pub mod Piece
